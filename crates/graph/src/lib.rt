@@ -1,0 +1,1 @@
+// Directed graphs of at most 64 nodes: path search, topological order, cycles.

@@ -1,0 +1,3 @@
+pub mod Acts
+pub mod Conflicts
+pub mod Serial
