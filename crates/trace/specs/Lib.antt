@@ -1,0 +1,6 @@
+pub mod Pieces
+pub mod Kinds
+pub mod Numbers
+pub mod Refusals
+pub mod Lines
+pub mod Traces
