@@ -1,3 +1,4 @@
 pub mod Parting
 pub mod Figures
 pub mod Fields
+pub mod Readings

@@ -114,3 +114,33 @@ parted-few sep (b ∷ bs) =
       inl e ↦ rw e (omega (arith, parted-few sep bs))
     | inr e ↦ rw e (omega (arith, parted-few sep bs, length-onto b (parted sep bs) (some-piece sep bs)))
     ]
+
+-- with no separator there is one piece
+pub parted-unended : (sep : ℕ) (bs : List ℕ) → length (before sep bs) ≡ length bs → parted sep bs ≡ bs ∷ []
+parted-unended sep [] h = refl
+parted-unended sep (b ∷ bs) h = go (parted-unended sep bs)
+  where
+    go : (length (before sep bs) ≡ length bs → parted sep bs ≡ bs ∷ []) → parted sep (b ∷ bs) ≡ (b ∷ bs) ∷ []
+    go ih =
+        elim (cases-bool (eqb b sep)) [
+          inl e ↦
+          let h′ : 0 ≡ suc (length bs) = rw e at h in
+          absurd (omega arith)
+        | inr e ↦
+          let h′ : suc (length (before sep bs)) ≡ suc (length bs) = rw e at h in
+          rw e (onto-more b _ _ _ (ih (omega arith)))
+        ]
+
+-- with one, the first piece ends there
+pub parted-ended : (sep : ℕ) (bs : List ℕ) → (length (before sep bs) ≡ length bs → ⊥) → parted sep bs ≡ before sep bs ∷ parted sep (behind sep bs)
+parted-ended sep [] h = absurd (h refl)
+parted-ended sep (b ∷ bs) h = go (parted-ended sep bs)
+  where
+    go : ((length (before sep bs) ≡ length bs → ⊥) → parted sep bs ≡ before sep bs ∷ parted sep (behind sep bs)) → parted sep (b ∷ bs) ≡ before sep (b ∷ bs) ∷ parted sep (behind sep (b ∷ bs))
+    go ih =
+        elim (cases-bool (eqb b sep)) [
+          inl e ↦ rw e refl
+        | inr e ↦
+          let h′ : suc (length (before sep bs)) ≡ suc (length bs) → ⊥ = rw e at h in
+          rw (behind-other sep b bs e, e) (onto-more b _ _ _ (ih (λ q. h′ (ap suc q))))
+        ]

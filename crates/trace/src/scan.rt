@@ -1,10 +1,12 @@
 ghost use mathlib.Core.Path.{_≡_};
+ghost use Prim.Native.Nat.{_≤_};
 ghost use lib.ListN.{length};
 ghost use Rattle.trace.specs.Pieces.{before, behind, parted};
 
 // How many bytes stand before the first separator, or all of them where there is none.
 pub fn find(bytes: &[u8], separator: u8) -> usize
-    ensures { λ r. ⌜ r ≡ length (before separator (now (bytes .entry))) ⌝ }
+    ensures value { λ r. ⌜ r ≡ length (before separator (now (bytes .entry))) ⌝ }
+    ensures within { λ r. ⌜ r ≤ length (now (bytes .entry)) ⌝ }
 {
     let mut i = 0;
     while i < bytes.len() && bytes[i] != separator {
