@@ -2,3 +2,4 @@ pub mod Parting
 pub mod Figures
 pub mod Fields
 pub mod Readings
+pub mod Laying

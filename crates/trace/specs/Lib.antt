@@ -4,3 +4,4 @@ pub mod Numbers
 pub mod Refusals
 pub mod Lines
 pub mod Traces
+pub mod Writing

@@ -1,5 +1,6 @@
 ghost use mathlib.Core.Path.{_≡_};
 ghost use Rattle.trace.specs.Kinds.{kind-of, letter};
+ghost use Rattle.trace.specs.declared.kind.Kind.{Kind as AnyKind};
 
 // What an act does, without the numbers that it carries.
 #[derive(Clone, Copy)]
@@ -41,5 +42,22 @@ pub fn letter_of(kind: Kind) -> char
         Kind::Abort => 'A',
         Kind::Peek => 'P',
         Kind::Retire => 'T',
+    }
+}
+
+// The byte that a kind's letter is written as.
+pub fn byte_of(c: char) -> u8
+    requires { ⌜ ((k : AnyKind) × (c ≡ letter k)) ⌝ }
+    ensures { λ r. ⌜ r ≡ c ⌝ }
+{
+    match c {
+        'O' => b'O',
+        'R' => b'R',
+        'W' => b'W',
+        'C' => b'C',
+        'A' => b'A',
+        'P' => b'P',
+        'T' => b'T',
+        _ => unreachable(),
     }
 }

@@ -1,0 +1,7 @@
+use native.Mathlib.Omega.{arith}
+use Rattle.trace.proofs.Laying.{length-text, length-line}
+use Rattle.trace.proofs.writer.line_len.Needs as need
+
+pub returns : need.returns
+returns c =
+    omega (arith, length-line (c .args .act .now), length-text _ _ (c .job-of .ensures), length-text _ _ (c .item-of .ensures), length-text _ _ (c .value-of .ensures), c .field-len .ensures .value, c .field-len-2 .ensures .value, c .field-len-3 .ensures .value)
