@@ -3,3 +3,5 @@ pub mod Figures
 pub mod Fields
 pub mod Readings
 pub mod Laying
+pub mod Saying
+pub mod Trips

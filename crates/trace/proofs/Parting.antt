@@ -144,3 +144,61 @@ parted-ended sep (b ∷ bs) h = go (parted-ended sep bs)
           let h′ : suc (length (before sep bs)) ≡ suc (length bs) → ⊥ = rw e at h in
           rw (behind-other sep b bs e, e) (onto-more b _ _ _ (ih (λ q. h′ (ap suc q))))
         ]
+
+-- putting together again
+
+rejoined-onto : (sep b : ℕ) (ps : List (List ℕ)) → rejoined sep (onto b ps) ≡ b ∷ rejoined sep ps
+rejoined-onto sep b [] = refl
+rejoined-onto sep b (p ∷ []) = refl
+rejoined-onto sep b (p ∷ q ∷ ps) = refl
+
+rejoined-empty : (sep : ℕ) (ps : List (List ℕ)) → 0 < length ps → rejoined sep ([] ∷ ps) ≡ sep ∷ rejoined sep ps
+rejoined-empty sep [] h = absurd (omega arith)
+rejoined-empty sep (p ∷ ps) h = refl
+
+-- pieces put together again are the bytes that were parted
+pub rejoin : (sep : ℕ) (bs : List ℕ) → rejoined sep (parted sep bs) ≡ bs
+rejoin sep [] = refl
+rejoin sep (b ∷ bs) = go (rejoin sep bs)
+  where
+    go : rejoined sep (parted sep bs) ≡ bs → rejoined sep (parted sep (b ∷ bs)) ≡ b ∷ bs
+    go ih =
+        elim (cases-bool (eqb b sep)) [
+          inl e ↦ rw e (rejoined-empty sep (parted sep bs) (some-piece sep bs) ∙ ap (λ l. sep ∷ l) ih ∙ ap (λ c. c ∷ bs) (sym (eqb-true b sep e)))
+        | inr e ↦ rw e (rejoined-onto sep b (parted sep bs) ∙ ap (λ l. b ∷ l) ih)
+        ]
+
+-- no separator stands among the bytes
+abbrev pub Free : ℕ → List ℕ → Type 0
+Free sep [] = Unit {0}
+Free sep (b ∷ bs) = (b ≡ sep → ⊥) × Free sep bs
+
+pub free-append : (sep : ℕ) (p q : List ℕ) → Free sep p → Free sep q → Free sep (p ++ q)
+free-append sep [] q f g = g
+free-append sep (b ∷ p) q f g = (f .0, free-append sep p q (f .1) g)
+
+pub parted-none : (sep : ℕ) (p : List ℕ) → Free sep p → parted sep p ≡ p ∷ []
+parted-none sep [] f = refl
+parted-none sep (b ∷ p) f = rw (ne-eqb b sep (f .0)) (onto-more b _ _ _ (parted-none sep p (f .1)))
+
+pub parted-at : (sep : ℕ) (p t : List ℕ) → Free sep p → parted sep (p ++ sep ∷ t) ≡ p ∷ parted sep t
+parted-at sep [] t f = rw (eq-eqb sep sep refl) refl
+parted-at sep (b ∷ p) t f = rw (ne-eqb b sep (f .0)) (onto-more b _ _ _ (parted-at sep p t (f .1)))
+
+pub before-at : (sep : ℕ) (p t : List ℕ) → Free sep p → before sep (p ++ sep ∷ t) ≡ p
+before-at sep [] t f = rw (eq-eqb sep sep refl) refl
+before-at sep (b ∷ p) t f = rw (ne-eqb b sep (f .0)) (ap (λ l. b ∷ l) (before-at sep p t (f .1)))
+
+-- bytes with a separator are what stands before it, the separator, and what stands behind it
+pub split-ended : (sep : ℕ) (bs : List ℕ) → (length (before sep bs) ≡ length bs → ⊥) → bs ≡ before sep bs ++ sep ∷ behind sep bs
+split-ended sep [] h = absurd (h refl)
+split-ended sep (b ∷ bs) h = go (split-ended sep bs)
+  where
+    go : ((length (before sep bs) ≡ length bs → ⊥) → bs ≡ before sep bs ++ sep ∷ behind sep bs) → b ∷ bs ≡ before sep (b ∷ bs) ++ sep ∷ behind sep (b ∷ bs)
+    go ih =
+        elim (cases-bool (eqb b sep)) [
+          inl e ↦ rw e (ap (λ c. c ∷ bs) (eqb-true b sep e))
+        | inr e ↦
+          let h′ : suc (length (before sep bs)) ≡ suc (length bs) → ⊥ = rw e at h in
+          rw (behind-other sep b bs e, e) (ap (λ l. b ∷ l) (ih (λ q. h′ (ap suc q))))
+        ]

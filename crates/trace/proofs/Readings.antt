@@ -60,7 +60,7 @@ unended-reading room n start (b ∷ bs) h e = ap (reading room n start) (parted-
 first-unended : (place : LinePlace) (bs : List ℕ) → length (before 10 bs) ≡ length bs → first-line place bs ≡ Err (record { place = place; what = Unended })
 first-unended place bs e = rw (eq-eqb (length (before 10 bs)) (length bs) e) refl
 
-first-ended : (place : LinePlace) (bs : List ℕ) → (length (before 10 bs) ≡ length bs → ⊥) → first-line place bs ≡ with-length (length (before 10 bs) + 1) (in-place place (act-on (before 10 bs)))
+pub first-ended : (place : LinePlace) (bs : List ℕ) → (length (before 10 bs) ≡ length bs → ⊥) → first-line place bs ≡ with-length (length (before 10 bs) + 1) (in-place place (act-on (before 10 bs)))
 first-ended place bs ne = rw (ne-eqb (length (before 10 bs)) (length bs) ne) refl
 
 pub bad-line : (room n start : ℕ) (bs : List ℕ) (f : LineFault) → 0 < length bs → first-line (place-of n start) bs ≡ Err f → reading room n start (parted 10 bs) ≡ ends (Some (Line f))
@@ -83,17 +83,29 @@ abbrev length-part : ℕ → Result (Act × ℕ) LineFault → ℕ
 length-part d (Ok p) = p .1
 length-part d (Err f) = d
 
-pub good-line : (room n start : ℕ) (bs : List ℕ) (a : Act) (k : ℕ) → first-line (place-of n start) bs ≡ Ok (a, k) → (reading room n start (parted 10 bs) ≡ line-read room (place-of n start) (Ok a) (reading (room - 1) (n + 1) (start + k) (parted 10 (drop k bs)))) × (0 < k) × (k ≤ length bs)
-good-line room n start bs a k e = elim (cases-eq (length (before 10 bs)) (length bs)) [ inl q ↦ absurd (apart _ _ (sym e ∙ first-unended (place-of n start) bs q)) | inr ne ↦ by (act-on (before 10 bs)) refl ne ]
+-- what a good first line says of the bytes
+pub first-said : (place : LinePlace) (bs : List ℕ) (a : Act) (k : ℕ) → first-line place bs ≡ Ok (a, k) → (act-on (before 10 bs) ≡ Ok a) × (k ≡ length (before 10 bs) + 1) × (length (before 10 bs) ≡ length bs → ⊥)
+first-said place bs a k e = elim (cases-eq (length (before 10 bs)) (length bs)) [ inl q ↦ absurd (apart _ _ (sym e ∙ first-unended place bs q)) | inr ne ↦ by (act-on (before 10 bs)) refl ne ]
   where
-    by : (r : Result Act LineCause) → act-on (before 10 bs) ≡ r → (length (before 10 bs) ≡ length bs → ⊥) → (reading room n start (parted 10 bs) ≡ line-read room (place-of n start) (Ok a) (reading (room - 1) (n + 1) (start + k) (parted 10 (drop k bs)))) × (0 < k) × (k ≤ length bs)
-    by (Err w) q ne = absurd (apart _ _ (sym e ∙ first-ended (place-of n start) bs ne ∙ ap (λ r. with-length (length (before 10 bs) + 1) (in-place (place-of n start) r)) q))
+    by : (r : Result Act LineCause) → act-on (before 10 bs) ≡ r → (length (before 10 bs) ≡ length bs → ⊥) → (act-on (before 10 bs) ≡ Ok a) × (k ≡ length (before 10 bs) + 1) × (length (before 10 bs) ≡ length bs → ⊥)
+    by (Err w) q ne = absurd (apart _ _ (sym e ∙ first-ended place bs ne ∙ ap (λ r. with-length (length (before 10 bs) + 1) (in-place place r)) q))
     by (Ok b) q ne =
-        let g = sym e ∙ first-ended (place-of n start) bs ne ∙ ap (λ r. with-length (length (before 10 bs) + 1) (in-place (place-of n start) r)) q in
-        let r = ended-reading room n start bs ne ∙ ap (λ r. line-read room (place-of n start) r (reading (room - 1) (n + 1) (start + (length (before 10 bs) + 1)) (parted 10 (behind 10 bs)))) q in
-        let ea : a ≡ b = ap (act-part a) g in
-        let ek : k ≡ length (before 10 bs) + 1 = ap (length-part k) g in
-        (rw (ea, ek) r, omega arith, omega (arith, before-short 10 bs))
+        let g = sym e ∙ first-ended place bs ne ∙ ap (λ r. with-length (length (before 10 bs) + 1) (in-place place r)) q in
+        (q ∙ ap Ok (sym (ap (act-part a) g)), ap (length-part k) g, ne)
+
+pub good-line : (room n start : ℕ) (bs : List ℕ) (a : Act) (k : ℕ) → first-line (place-of n start) bs ≡ Ok (a, k) → (reading room n start (parted 10 bs) ≡ line-read room (place-of n start) (Ok a) (reading (room - 1) (n + 1) (start + k) (parted 10 (drop k bs)))) × (0 < k) × (k ≤ length bs)
+good-line room n start bs a k e =
+    let s = first-said (place-of n start) bs a k e in
+    let ne = s .2 in
+    let ek = sym (s .1) in
+    let short = before-short 10 bs in
+    (
+      ended-reading room n start bs ne
+      ∙ ap (λ r. line-read room (place-of n start) r (reading (room - 1) (n + 1) (start + (length (before 10 bs) + 1)) (parted 10 (behind 10 bs)))) (s .0)
+      ∙ ap (λ k. line-read room (place-of n start) (Ok a) (reading (room - 1) (n + 1) (start + k) (parted 10 (drop k bs)))) ek,
+      omega arith,
+      omega arith,
+    )
 
 -- the first line of what is left, as a slice reads it
 pub part-line : (place : LinePlace) (bytes : List ℕ) (start : ℕ) (r : Result (Act × ℕ) LineFault) → r ≡ first-line place (take (length bytes - start) (drop start bytes)) → first-line place (drop start bytes) ≡ r

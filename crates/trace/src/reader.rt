@@ -1,6 +1,6 @@
 ghost use mathlib.Core.Path.{_≡_};
 ghost use lib.ListN.{length};
-ghost use Rattle.trace.specs.Traces.{reading-of, answer, list-after, first-line};
+ghost use Rattle.trace.specs.Traces.{reading-of, reading-of-input, answer, list-after, first-line, FirstBadLineDecides, ReadsWhatWasWritten, WritesBack};
 ghost use Rattle.trace.specs.declared.fault.ReadRefusal.the-variants.{Line};
 use crate::act::Act;
 use crate::act::Step;
@@ -38,6 +38,9 @@ fn first_line(bytes: &[u8], place: LinePlace) -> Result<(Act, usize), LineFault>
 pub fn read_trace(bytes: &[u8], steps: &mut [Step]) -> Result<usize, ReadRefusal>
     ensures answered { λ r. ⌜ r ≡ answer (reading-of (now (bytes .entry)) (length (now (steps .entry)))) ⌝ }
     ensures listed { λ _. ⌜ now (steps .exit) ≡ list-after (now (steps .entry)) (reading-of (now (bytes .entry)) (length (now (steps .entry)))) ⌝ }
+    ensures first_bad_line_decides { λ r. ⌜ FirstBadLineDecides (now (bytes .entry)) (now (steps .entry)) (now (steps .exit)) r ⌝ }
+    ensures reads_what_was_written { λ r. ⌜ ReadsWhatWasWritten (now (bytes .entry)) (now (steps .entry)) (now (steps .exit)) r ⌝ }
+    ensures writes_back { λ r. ⌜ WritesBack (now (bytes .entry)) (now (steps .exit)) r ⌝ }
 {
     let mut count = 0;
     let mut start = 0;
@@ -52,4 +55,19 @@ pub fn read_trace(bytes: &[u8], steps: &mut [Step]) -> Result<usize, ReadRefusal
         start += length;
     }
     Ok(count)
+}
+
+// The longest input that is read, in bytes.
+pub const LONGEST_INPUT: usize = 32768;
+
+// Reads a whole input as `read_trace` does, unless it is too long to be looked at. It is then refused as
+// if the list were full before its first line, which has the number 0, and the list stays as it was.
+pub fn read_input(bytes: &[u8], steps: &mut [Step]) -> Result<usize, ReadRefusal>
+    ensures answered { λ r. ⌜ r ≡ answer (reading-of-input (now (bytes .entry)) (length (now (steps .entry)))) ⌝ }
+    ensures listed { λ _. ⌜ now (steps .exit) ≡ list-after (now (steps .entry)) (reading-of-input (now (bytes .entry)) (length (now (steps .entry)))) ⌝ }
+{
+    if bytes.len() > LONGEST_INPUT {
+        return Err(ReadRefusal::Full { line: 0 });
+    }
+    read_trace(bytes, steps)
 }
