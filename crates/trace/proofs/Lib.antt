@@ -5,3 +5,4 @@ pub mod Readings
 pub mod Laying
 pub mod Saying
 pub mod Trips
+pub mod Batches

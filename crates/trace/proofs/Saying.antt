@@ -40,7 +40,7 @@ use Rattle.trace.proofs.Laying.{lined}
 apart : {X Y : Type 0} (x : X) (y : Y) → Ok x ≡ Err y → ⊥
 apart x y e = let z : _≡_ {A = ℕ} 0 1 = cc in omega arith
 
-apart′ : {X Y : Type 0} (x : X) (y : Y) → Err y ≡ Ok x → ⊥
+pub apart′ : {X Y : Type 0} (x : X) (y : Y) → Err y ≡ Ok x → ⊥
 apart′ x y e = let z : _≡_ {A = ℕ} 0 1 = cc in omega arith
 
 -- numbers
@@ -134,7 +134,7 @@ carried : {X Y F : Type 0} (r : Result X F) (f : X → Result Y F) (y : Y) → a
 carried (Ok x) f y h = (x, refl, h)
 carried (Err e) f y h = absurd (apart′ _ _ h)
 
-same-ok : {X F : Type 0} (x y : X) → _≡_ {A = Result X F} (Ok x) (Ok y) → x ≡ y
+pub same-ok : {X F : Type 0} (x y : X) → _≡_ {A = Result X F} (Ok x) (Ok y) → x ≡ y
 same-ok x y e = cc
 
 -- what the four shapes of a line say

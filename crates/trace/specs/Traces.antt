@@ -17,6 +17,7 @@ use Rattle.trace.specs.declared.fault.LinePlace.{LinePlace}
 use Rattle.trace.specs.declared.fault.LineFault.{LineFault}
 use Rattle.trace.specs.declared.fault.ReadRefusal.{ReadRefusal}
 use Rattle.trace.specs.declared.fault.ReadRefusal.the-variants.{Line, Full}
+use Rattle.trace.specs.declared.fault.WriteRefusal.{WriteRefusal}
 use Rattle.trace.specs.Lines.{line-end, act-on, line-of, Sayable}
 use Rattle.trace.specs.Pieces.{parted, before}
 
@@ -147,3 +148,11 @@ ReadsWhatWasWritten bytes entry exit r =
 -- a trace that is read is, written out again, the same bytes
 abbrev pub WritesBack : List ℕ → List Step → Result ℕ ReadRefusal → Type 0
 WritesBack bytes exit r = (n : ℕ) → r ≡ Ok n → written (acts-of (take n exit)) ≡ bytes
+
+-- lines that were written are read back as their acts, where there is room for the steps
+abbrev pub TraceReadsBack : List Act → List ℕ → Result ℕ WriteRefusal → Type 0
+TraceReadsBack acts out r =
+    (n : ℕ) → r ≡ Ok n → (room : ℕ) → length acts ≤ room → reading-of (take n out) room ≡ record { acts = acts; stop = None }
+
+abbrev pub LineReadsBack : Act → List ℕ → Result ℕ WriteRefusal → Type 0
+LineReadsBack a out r = TraceReadsBack (a ∷ []) out r

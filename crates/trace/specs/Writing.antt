@@ -32,7 +32,20 @@ fitted room n = cond (leb n room) (Ok n) (Err (DoesNotFit n))
 abbrev pub writing : Act → ℕ → Result ℕ WriteRefusal
 writing a room = item-checked (item-of a) (fitted room (length (line-of a)))
 
--- what the bytes hold after it: the line from a place on, or what they held before
-abbrev pub laid : Result ℕ WriteRefusal → ℕ → List ℕ → List ℕ → List ℕ
-laid (Ok n) place line out = over place line out
-laid (Err why) place line out = out
+-- what writing acts one behind the other answers: the length of their lines, or the first refusal
+abbrev pub plus : ℕ → Result ℕ WriteRefusal → Result ℕ WriteRefusal
+plus n (Ok m) = Ok (n + m)
+plus n (Err why) = Err why
+
+abbrev pub writing-on : Result ℕ WriteRefusal → (ℕ → Result ℕ WriteRefusal) → Result ℕ WriteRefusal
+writing-on (Ok n) others = plus n (others n)
+writing-on (Err why) others = Err why
+
+abbrev pub writing-all : List Act → ℕ → Result ℕ WriteRefusal
+writing-all [] room = Ok 0
+writing-all (a ∷ acts) room = writing-on (writing a room) λ n. writing-all acts (room - n)
+
+-- what the bytes hold after it: the lines at the front, or what they held before
+abbrev pub laid : Result ℕ WriteRefusal → List ℕ → List ℕ → List ℕ
+laid (Ok n) lines out = lines ++ drop (length lines) out
+laid (Err why) lines out = out

@@ -1,10 +1,12 @@
 ghost use mathlib.Core.Path.{_≡_};
 ghost use mathlib.Core.List.{[], _∷_, _++_};
-ghost use Prim.Native.Nat.{_+_, _-_, _≤_};
+ghost use Prim.Native.Nat.{ℕ, _+_, _≤_};
 ghost use lib.ListN.{length};
 ghost use Rattle.std.specs.declared.result.Result.the-variants.{Ok};
-ghost use Rattle.trace.specs.Lines.{field-text, job-of, item-of, value-of, kind-of-act, line-of};
-ghost use Rattle.trace.specs.Writing.{over, writing, laid, item-checked};
+ghost use Rattle.trace.specs.declared.fault.Column.the-variants.{Job, Item, Value};
+ghost use Rattle.trace.specs.Lines.{field-text, job-of, item-of, value-of, kind-of-act, line-of, Within, Sayable};
+ghost use Rattle.trace.specs.Traces.{LineReadsBack, TraceReadsBack, AllSayable, written};
+ghost use Rattle.trace.specs.Writing.{over, writing, writing-all, laid, item-checked};
 use crate::act::Act;
 use crate::fault::Column;
 use crate::fault::WriteRefusal;
@@ -30,7 +32,8 @@ fn kind_of_act(act: &Act) -> Kind
 }
 
 fn job_of(act: &Act) -> Option<u32>
-    ensures { λ r. ⌜ r ≡ job-of (now (act .entry)) ⌝ }
+    ensures value { λ r. ⌜ r ≡ job-of (now (act .entry)) ⌝ }
+    ensures bound { λ _. ⌜ Within Job (job-of (now (act .entry))) ⌝ }
 {
     match act {
         Act::Open { job } => Some(*job),
@@ -58,7 +61,8 @@ fn item_of(act: &Act) -> Option<u32>
 }
 
 fn value_of(act: &Act) -> Option<u32>
-    ensures { λ r. ⌜ r ≡ value-of (now (act .entry)) ⌝ }
+    ensures value { λ r. ⌜ r ≡ value-of (now (act .entry)) ⌝ }
+    ensures bound { λ _. ⌜ Within Value (value-of (now (act .entry))) ⌝ }
 {
     match act {
         Act::Read { job: _, item: _, value } => Some(*value),
@@ -84,7 +88,8 @@ fn field_len(field: Option<u32>) -> usize
 
 // The length of the line of an act, with its line end.
 fn line_len(act: &Act) -> usize
-    ensures { λ r. ⌜ r ≡ length (line-of (now (act .entry))) ⌝ }
+    ensures value { λ r. ⌜ r ≡ length (line-of (now (act .entry))) ⌝ }
+    ensures bound { λ _. ⌜ Within Job (job-of (now (act .entry))) × Within Value (value-of (now (act .entry))) ⌝ }
 {
     5 + field_len(job_of(act)) + field_len(item_of(act)) + field_len(value_of(act))
 }
@@ -135,18 +140,16 @@ fn put_line(out: &mut [u8], place: usize, act: &Act)
     put_field(out, value, value_of(act), b'\n');
 }
 
-// Writes the line of an act from a place on, and answers its length.
-fn write_at(act: &Act, out: &mut [u8], place: usize) -> Result<usize, WriteRefusal>
-    requires { ⌜ place ≤ length (now out) ⌝ }
-    ensures answered { λ r. ⌜ r ≡ writing (now (act .entry)) (length (now (out .entry)) - place) ⌝ }
-    ensures after { λ r. ⌜ now (out .exit) ≡ laid r place (line-of (now (act .entry))) (now (out .entry)) ⌝ }
+// The length of the line of an act that can be written with this much room.
+fn measure(act: &Act, room: usize) -> Result<usize, WriteRefusal>
+    ensures answered { λ r. ⌜ r ≡ writing (now (act .entry)) room ⌝ }
+    ensures sayable { λ r. ⌜ ((n : ℕ) → r ≡ Ok n → Sayable (now (act .entry))) ⌝ }
 {
     check_item(item_of(act))?;
     let length = line_len(act);
-    if length > out.len() - place {
+    if length > room {
         return Err(WriteRefusal::DoesNotFit { length });
     }
-    put_line(out, place, act);
     Ok(length)
 }
 
@@ -155,7 +158,51 @@ fn write_at(act: &Act, out: &mut [u8], place: usize) -> Result<usize, WriteRefus
 // Refused, with no byte changed, for an item that no line may name, and for a line that does not fit.
 pub fn write_act(act: &Act, out: &mut [u8]) -> Result<usize, WriteRefusal>
     ensures answered { λ r. ⌜ r ≡ writing (now (act .entry)) (length (now (out .entry))) ⌝ }
-    ensures after { λ r. ⌜ now (out .exit) ≡ laid r 0 (line-of (now (act .entry))) (now (out .entry)) ⌝ }
+    ensures after { λ r. ⌜ now (out .exit) ≡ laid r (line-of (now (act .entry))) (now (out .entry)) ⌝ }
+    ensures reads_back { λ r. ⌜ LineReadsBack (now (act .entry)) (now (out .exit)) r ⌝ }
 {
-    write_at(act, out, 0)
+    let length = measure(act, out.len())?;
+    put_line(out, 0, act);
+    Ok(length)
+}
+
+// The length of the lines of acts that can be written with this much room.
+fn measure_all(acts: &[Act], room: usize) -> Result<usize, WriteRefusal>
+    ensures answered { λ r. ⌜ r ≡ writing-all (now (acts .entry)) room ⌝ }
+    ensures sayable { λ r. ⌜ ((n : ℕ) → r ≡ Ok n → AllSayable (now (acts .entry))) ⌝ }
+{
+    let mut total = 0;
+    let mut i = 0;
+    while i < acts.len() {
+        total += measure(&acts[i], room - total)?;
+        i += 1;
+    }
+    Ok(total)
+}
+
+// Writes the lines of acts, one behind the other, at the front of the bytes.
+fn put_lines(out: &mut [u8], acts: &[Act])
+    requires { ⌜ length (written (now acts)) ≤ length (now out) ⌝ }
+    ensures { λ _. ⌜ now (out .exit) ≡ over 0 (written (now (acts .entry))) (now (out .entry)) ⌝ }
+{
+    let mut place = 0;
+    let mut i = 0;
+    while i < acts.len() {
+        put_line(out, place, &acts[i]);
+        place += line_len(&acts[i]);
+        i += 1;
+    }
+}
+
+// Writes acts as a trace at the front of the lent bytes, a line each, and answers its length.
+//
+// Refused, with no byte changed, by the first act that cannot be written behind those before it.
+pub fn write_trace(acts: &[Act], out: &mut [u8]) -> Result<usize, WriteRefusal>
+    ensures answered { λ r. ⌜ r ≡ writing-all (now (acts .entry)) (length (now (out .entry))) ⌝ }
+    ensures after { λ r. ⌜ now (out .exit) ≡ laid r (written (now (acts .entry))) (now (out .entry)) ⌝ }
+    ensures reads_back { λ r. ⌜ TraceReadsBack (now (acts .entry)) (now (out .exit)) r ⌝ }
+{
+    let length = measure_all(acts, out.len())?;
+    put_lines(out, acts);
+    Ok(length)
 }

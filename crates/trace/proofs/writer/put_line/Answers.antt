@@ -11,19 +11,19 @@ use Rattle.trace.proofs.writer.put_line.Needs as need
 
 pub put-field-item-requires : need.put-field-item-requires
 put-field-item-requires c κs =
-    simp length-set (omega (arith, c .pre, length-line (c .args .act .now), length-text _ _ (c .job-of .ensures)))
+    simp length-set (omega (arith, c .pre, length-line (c .args .act .now), length-text _ _ (c .job-of .ensures .value)))
 
 pub put-field-value-requires : need.put-field-value-requires
 put-field-value-requires c κs =
-    omega (arith, c .pre, length-line (c .args .act .now), length-text _ _ (c .job-of .ensures), length-text _ _ (c .item-of .ensures), c .put-field-item .ensures .end, c .put-field-item .kept .out, simp length-set at (c .put-field-item .kept .out))
+    omega (arith, c .pre, length-line (c .args .act .now), length-text _ _ (c .job-of .ensures .value), length-text _ _ (c .item-of .ensures), c .put-field-item .ensures .end, c .put-field-item .kept .out, simp length-set at (c .put-field-item .kept .out))
 
 pub put-field-requires : need.put-field-requires
 put-field-requires c κs =
-    omega (arith, c .pre, length-line (c .args .act .now), length-text _ _ (c .job-of .ensures), length-text _ _ (c .item-of .ensures), length-text _ _ (c .value-of .ensures), c .put-field-item .ensures .end, c .put-field-value .ensures .end, simp length-set at (c .put-field-item .kept .out), c .put-field-value .kept .out)
+    omega (arith, c .pre, length-line (c .args .act .now), length-text _ _ (c .job-of .ensures .value), length-text _ _ (c .item-of .ensures), length-text _ _ (c .value-of .ensures .value), c .put-field-item .ensures .end, c .put-field-value .ensures .end, simp length-set at (c .put-field-item .kept .out), c .put-field-value .kept .out)
 
 omega-fits : (c : need.After-slice-known-4·1) → c .args .place + length (lined (c .byte-of .result) (field-text (c .job-of .result)) (field-text (c .item-of .result)) (field-text (c .value-of .result))) ≤ length (c .args .out .now)
 omega-fits c =
-    omega (arith, c .pre, length-line (c .args .act .now), length-lined (c .byte-of .result) (field-text (c .job-of .result)) (field-text (c .item-of .result)) (field-text (c .value-of .result)), length-text _ _ (c .job-of .ensures), length-text _ _ (c .item-of .ensures), length-text _ _ (c .value-of .ensures))
+    omega (arith, c .pre, length-line (c .args .act .now), length-lined (c .byte-of .result) (field-text (c .job-of .result)) (field-text (c .item-of .result)) (field-text (c .value-of .result)), length-text _ _ (c .job-of .ensures .value), length-text _ _ (c .item-of .ensures), length-text _ _ (c .value-of .ensures .value))
 
 pub returns : need.returns
 returns c =
@@ -38,4 +38,4 @@ returns c =
     c .put-field .ensures .after
     ∙ ap (over (c .put-field-value .result) (v ++ 10 ∷ [])) (c .put-field-value .ensures .after ∙ ap (over (c .put-field-item .result) (x ++ 44 ∷ [])) (c .put-field-item .ensures .after))
     ∙ over-line out place b (c .put-field-item .result) (c .put-field-value .result) j x v (c .put-field-item .ensures .end) (c .put-field-value .ensures .end) fits
-    ∙ (λ i. over place (lined (named i) (field-text (c .job-of .ensures i)) (field-text (c .item-of .ensures i)) (field-text (c .value-of .ensures i))) out)
+    ∙ (λ i. over place (lined (named i) (field-text (c .job-of .ensures .value i)) (field-text (c .item-of .ensures i)) (field-text (c .value-of .ensures .value i))) out)
