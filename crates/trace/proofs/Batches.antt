@@ -30,16 +30,16 @@ use Rattle.trace.proofs.Trips.{reading-written}
 fitted-says : (room m n : ℕ) → fitted room m ≡ Ok n → (n ≡ m) × (n ≤ room)
 fitted-says room m n h =
     elim (cases-bool (leb m room)) [
-      inl e ↦ let s = same-ok _ _ (sym (ap (λ b. cond b (Ok m) (Err (DoesNotFit m))) e) ∙ h) in (sym s, omega (arith, leb-true m room e))
-    | inr e ↦ absurd (apart′ _ _ (sym (ap (λ b. cond b (Ok m) (Err (DoesNotFit m))) e) ∙ h))
+      | inl e ↦ let s = same-ok _ _ (sym (ap (λ b. cond b (Ok m) (Err (DoesNotFit m))) e) ∙ h) in (sym s, omega (arith, leb-true m room e))
+      | inr e ↦ absurd (apart′ _ _ (sym (ap (λ b. cond b (Ok m) (Err (DoesNotFit m))) e) ∙ h))
     ]
 
 checked-says : (item : Option ℕ) (r : Result ℕ WriteRefusal) (n : ℕ) → item-checked item r ≡ Ok n → r ≡ Ok n
 checked-says None r n h = h
 checked-says (Some x) r n h =
     elim (cases-bool (leb x 63)) [
-      inl e ↦ sym (ap (λ b. cond b r (Err (ItemAboveLimit x))) e) ∙ h
-    | inr e ↦ absurd (apart′ _ _ (sym (ap (λ b. cond b r (Err (ItemAboveLimit x))) e) ∙ h))
+      | inl e ↦ sym (ap (λ b. cond b r (Err (ItemAboveLimit x))) e) ∙ h
+      | inr e ↦ absurd (apart′ _ _ (sym (ap (λ b. cond b r (Err (ItemAboveLimit x))) e) ∙ h))
     ]
 
 pub writing-says : (a : Act) (room n : ℕ) → writing a room ≡ Ok n → (n ≡ length (line-of a)) × (n ≤ room)

@@ -85,10 +85,10 @@ parted-more sep (b ∷ bs) h = go (parted-more sep bs)
     go : (1 < length (parted sep bs) → parted sep bs ≡ before sep bs ∷ parted sep (behind sep bs)) → parted sep (b ∷ bs) ≡ before sep (b ∷ bs) ∷ parted sep (behind sep (b ∷ bs))
     go ih =
         elim (cases-bool (eqb b sep)) [
-          inl e ↦ rw e refl
-        | inr e ↦
-          let h′ : 1 < length (onto b (parted sep bs)) = rw e at h in
-          rw (behind-other sep b bs e, e) (onto-more b _ _ _ (ih (omega (arith, length-onto b (parted sep bs) (some-piece sep bs)))))
+          | inl e ↦ rw e refl
+          | inr e ↦
+              let h′ : 1 < length (onto b (parted sep bs)) = rw e at h in
+              rw (behind-other sep b bs e, e) (onto-more b _ _ _ (ih (omega (arith, length-onto b (parted sep bs) (some-piece sep bs)))))
         ]
 
 -- a lone piece is everything
@@ -99,20 +99,20 @@ parted-one sep (b ∷ bs) h = go (parted-one sep bs)
     go : (length (parted sep bs) ≡ 1 → parted sep bs ≡ bs ∷ []) → parted sep (b ∷ bs) ≡ (b ∷ bs) ∷ []
     go ih =
         elim (cases-bool (eqb b sep)) [
-          inl e ↦
-          let h′ : suc (length (parted sep bs)) ≡ 1 = rw e at h in
-          absurd (omega (arith, some-piece sep bs))
-        | inr e ↦
-          let h′ : length (onto b (parted sep bs)) ≡ 1 = rw e at h in
-          rw e (onto-more b _ _ _ (ih (omega (arith, length-onto b (parted sep bs) (some-piece sep bs)))))
+          | inl e ↦
+              let h′ : suc (length (parted sep bs)) ≡ 1 = rw e at h in
+              absurd (omega (arith, some-piece sep bs))
+          | inr e ↦
+              let h′ : length (onto b (parted sep bs)) ≡ 1 = rw e at h in
+              rw e (onto-more b _ _ _ (ih (omega (arith, length-onto b (parted sep bs) (some-piece sep bs)))))
         ]
 
 pub parted-few : (sep : ℕ) (bs : List ℕ) → length (parted sep bs) ≤ length bs + 1
 parted-few sep [] = omega arith
 parted-few sep (b ∷ bs) =
     elim (cases-bool (eqb b sep)) [
-      inl e ↦ rw e (omega (arith, parted-few sep bs))
-    | inr e ↦ rw e (omega (arith, parted-few sep bs, length-onto b (parted sep bs) (some-piece sep bs)))
+      | inl e ↦ rw e (omega (arith, parted-few sep bs))
+      | inr e ↦ rw e (omega (arith, parted-few sep bs, length-onto b (parted sep bs) (some-piece sep bs)))
     ]
 
 -- with no separator there is one piece
@@ -123,12 +123,12 @@ parted-unended sep (b ∷ bs) h = go (parted-unended sep bs)
     go : (length (before sep bs) ≡ length bs → parted sep bs ≡ bs ∷ []) → parted sep (b ∷ bs) ≡ (b ∷ bs) ∷ []
     go ih =
         elim (cases-bool (eqb b sep)) [
-          inl e ↦
-          let h′ : 0 ≡ suc (length bs) = rw e at h in
-          absurd (omega arith)
-        | inr e ↦
-          let h′ : suc (length (before sep bs)) ≡ suc (length bs) = rw e at h in
-          rw e (onto-more b _ _ _ (ih (omega arith)))
+          | inl e ↦
+              let h′ : 0 ≡ suc (length bs) = rw e at h in
+              absurd (omega arith)
+          | inr e ↦
+              let h′ : suc (length (before sep bs)) ≡ suc (length bs) = rw e at h in
+              rw e (onto-more b _ _ _ (ih (omega arith)))
         ]
 
 -- with one, the first piece ends there
@@ -139,10 +139,10 @@ parted-ended sep (b ∷ bs) h = go (parted-ended sep bs)
     go : ((length (before sep bs) ≡ length bs → ⊥) → parted sep bs ≡ before sep bs ∷ parted sep (behind sep bs)) → parted sep (b ∷ bs) ≡ before sep (b ∷ bs) ∷ parted sep (behind sep (b ∷ bs))
     go ih =
         elim (cases-bool (eqb b sep)) [
-          inl e ↦ rw e refl
-        | inr e ↦
-          let h′ : suc (length (before sep bs)) ≡ suc (length bs) → ⊥ = rw e at h in
-          rw (behind-other sep b bs e, e) (onto-more b _ _ _ (ih (λ q. h′ (ap suc q))))
+          | inl e ↦ rw e refl
+          | inr e ↦
+              let h′ : suc (length (before sep bs)) ≡ suc (length bs) → ⊥ = rw e at h in
+              rw (behind-other sep b bs e, e) (onto-more b _ _ _ (ih (λ q. h′ (ap suc q))))
         ]
 
 -- putting together again
@@ -164,8 +164,8 @@ rejoin sep (b ∷ bs) = go (rejoin sep bs)
     go : rejoined sep (parted sep bs) ≡ bs → rejoined sep (parted sep (b ∷ bs)) ≡ b ∷ bs
     go ih =
         elim (cases-bool (eqb b sep)) [
-          inl e ↦ rw e (rejoined-empty sep (parted sep bs) (some-piece sep bs) ∙ ap (λ l. sep ∷ l) ih ∙ ap (λ c. c ∷ bs) (sym (eqb-true b sep e)))
-        | inr e ↦ rw e (rejoined-onto sep b (parted sep bs) ∙ ap (λ l. b ∷ l) ih)
+          | inl e ↦ rw e (rejoined-empty sep (parted sep bs) (some-piece sep bs) ∙ ap (λ l. sep ∷ l) ih ∙ ap (λ c. c ∷ bs) (sym (eqb-true b sep e)))
+          | inr e ↦ rw e (rejoined-onto sep b (parted sep bs) ∙ ap (λ l. b ∷ l) ih)
         ]
 
 -- no separator stands among the bytes
@@ -197,8 +197,8 @@ split-ended sep (b ∷ bs) h = go (split-ended sep bs)
     go : ((length (before sep bs) ≡ length bs → ⊥) → bs ≡ before sep bs ++ sep ∷ behind sep bs) → b ∷ bs ≡ before sep (b ∷ bs) ++ sep ∷ behind sep (b ∷ bs)
     go ih =
         elim (cases-bool (eqb b sep)) [
-          inl e ↦ rw e (ap (λ c. c ∷ bs) (eqb-true b sep e))
-        | inr e ↦
-          let h′ : suc (length (before sep bs)) ≡ suc (length bs) → ⊥ = rw e at h in
-          rw (behind-other sep b bs e, e) (ap (λ l. b ∷ l) (ih (λ q. h′ (ap suc q))))
+          | inl e ↦ rw e (ap (λ c. c ∷ bs) (eqb-true b sep e))
+          | inr e ↦
+              let h′ : suc (length (before sep bs)) ≡ suc (length bs) → ⊥ = rw e at h in
+              rw (behind-other sep b bs e, e) (ap (λ l. b ∷ l) (ih (λ q. h′ (ap suc q))))
         ]

@@ -68,6 +68,7 @@ bad-line room n start bs f h e = elim (cases-eq (length (before 10 bs)) (length 
   where
     short : length (before 10 bs) ≡ length bs → reading room n start (parted 10 bs) ≡ ends (Some (Line f))
     short q = let g = first-unended (place-of n start) bs q in let r = unended-reading room n start bs h q in cc
+
     by : (r : Result Act LineCause) → act-on (before 10 bs) ≡ r → (length (before 10 bs) ≡ length bs → ⊥) → reading room n start (parted 10 bs) ≡ ends (Some (Line f))
     by (Ok a) q ne = absurd (apart _ _ (sym (first-ended (place-of n start) bs ne ∙ ap (λ r. with-length (length (before 10 bs) + 1) (in-place (place-of n start) r)) q) ∙ e))
     by (Err w) q ne =
@@ -98,11 +99,10 @@ good-line room n start bs a k e =
     let s = first-said (place-of n start) bs a k e in
     let ne = s .2 in
     let ek = sym (s .1) in
-    let short = before-short 10 bs in
-    (
+    let short = before-short 10 bs in (
       ended-reading room n start bs ne
-      ∙ ap (λ r. line-read room (place-of n start) r (reading (room - 1) (n + 1) (start + (length (before 10 bs) + 1)) (parted 10 (behind 10 bs)))) (s .0)
-      ∙ ap (λ k. line-read room (place-of n start) (Ok a) (reading (room - 1) (n + 1) (start + k) (parted 10 (drop k bs)))) ek,
+          ∙ ap (λ r. line-read room (place-of n start) r (reading (room - 1) (n + 1) (start + (length (before 10 bs) + 1)) (parted 10 (behind 10 bs)))) (s .0)
+          ∙ ap (λ k. line-read room (place-of n start) (Ok a) (reading (room - 1) (n + 1) (start + k) (parted 10 (drop k bs)))) ek,
       omega arith,
       omega arith,
     )
@@ -163,8 +163,8 @@ sofar-none bytes entry = record {
   within = omega arith;
   told = rw (sub-zero, zero-add) refl;
   held =
-    let r = reading-of bytes (length entry) in
-    rw sub-zero (ap (λ n. numbered 1 (r .acts) ++ drop n entry) (zero-add (length (r .acts))));
+      let r = reading-of bytes (length entry) in
+      rw sub-zero (ap (λ n. numbered 1 (r .acts) ++ drop n entry) (zero-add (length (r .acts))));
 }
 
 -- reading on past a good line for which there is room

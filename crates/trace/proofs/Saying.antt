@@ -30,7 +30,8 @@ use Rattle.trace.specs.declared.fault.NumberFault.the-variants.{AboveLimit, No
 use Rattle.trace.specs.declared.fault.FieldFault.{FieldFault}
 use Rattle.trace.specs.declared.fault.LineCause.{LineCause}
 use Rattle.trace.specs.Kinds.{kind-of, letter}
-use Rattle.trace.specs.Lines.{limit, and-then, in-field, filled, vacant, job-alone, all-three, all-but-job, none-filled, act-of, act-as, act-in, act-on, in-line, kind-in, job-of, item-of, value-of, kind-of-act, field-text, line-of, Sayable, Within}
+use Rattle.trace.specs.Limits.{limit}
+use Rattle.trace.specs.Lines.{and-then, in-field, filled, vacant, job-alone, all-three, all-but-job, none-filled, act-of, act-as, act-in, act-on, in-line, kind-in, job-of, item-of, value-of, kind-of-act, field-text, line-of, Sayable, Within}
 use Rattle.trace.specs.Numbers.{number-of, is-number, leading-zero}
 use Rattle.trace.specs.Pieces.{parted, rejoined}
 use Rattle.trace.proofs.Figures.{own}
@@ -52,8 +53,8 @@ taken most ds = cond (leb (value 10 ds) most) (Ok (value 10 ds)) (Err AboveLimit
 lone-zero : (ds : List ℕ) → not (leading-zero ds) ≡ true → 0 < length ds → getD ds 0 0 ≡ 48 → length ds ≡ 1
 lone-zero ds h some zero =
     elim (and-cases (eqb (getD ds 0 0) 48) (ltb 1 (length ds)) (not-true (leading-zero ds) h)) [
-      inl e ↦ absurd (eqb-false (getD ds 0 0) 48 e zero)
-    | inr e ↦ omega (arith, ltb-false 1 (length ds) e)
+      | inl e ↦ absurd (eqb-false (getD ds 0 0) 48 e zero)
+      | inr e ↦ omega (arith, ltb-false 1 (length ds) e)
     ]
 
 value-said : (most : ℕ) (ds : List ℕ) (n : ℕ) → most < 2 ^ 32 → is-number ds ≡ true → leb (value 10 ds) most ≡ true → value 10 ds ≡ n → (decimal n ≡ ds) × (n ≤ most)
@@ -71,20 +72,20 @@ ok-same m n e = cc
 number-said : (most : ℕ) (ds : List ℕ) (n : ℕ) → most < 2 ^ 32 → number-of most ds ≡ Ok n → (decimal n ≡ ds) × (n ≤ most)
 number-said most ds n small h =
     elim (cases-bool (is-number ds)) [
-      inr e ↦ absurd (apart′ _ _ (sym (ap (λ b. cond b (taken most ds) (Err NotANumber)) e) ∙ h))
-    | inl e ↦
-      let g : taken most ds ≡ Ok n = sym (ap (λ b. cond b (taken most ds) (Err NotANumber)) e) ∙ h in
-      elim (cases-bool (leb (value 10 ds) most)) [
-        inr l ↦ absurd (apart′ _ _ (sym (ap (λ b. cond b (Ok (value 10 ds)) (Err AboveLimit)) l) ∙ g))
-      | inl l ↦ value-said most ds n small e l (ok-same _ _ (sym (ap (λ b. cond b (Ok (value 10 ds)) (Err AboveLimit)) l) ∙ g))
-      ]
+      | inr e ↦ absurd (apart′ _ _ (sym (ap (λ b. cond b (taken most ds) (Err NotANumber)) e) ∙ h))
+      | inl e ↦
+          let g : taken most ds ≡ Ok n = sym (ap (λ b. cond b (taken most ds) (Err NotANumber)) e) ∙ h in
+          elim (cases-bool (leb (value 10 ds) most)) [
+            | inr l ↦ absurd (apart′ _ _ (sym (ap (λ b. cond b (Ok (value 10 ds)) (Err AboveLimit)) l) ∙ g))
+            | inl l ↦ value-said most ds n small e l (ok-same _ _ (sym (ap (λ b. cond b (Ok (value 10 ds)) (Err AboveLimit)) l) ∙ g))
+          ]
     ]
 
 not-leading : (n : ℕ) → n < 2 ^ 64 → leading-zero (decimal n) ≡ false
 not-leading n small =
     elim (cases-eq n 0) [
-      inl e ↦ and-right (eqb (getD (decimal n) 0 0) 48) (ltb 1 (length (decimal n))) (le-ltb 1 (length (decimal n)) (omega (arith, ap length (decimal-digit n (omega arith)))))
-    | inr e ↦ and-left (eqb (getD (decimal n) 0 0) 48) (ltb 1 (length (decimal n))) (ne-eqb (getD (decimal n) 0 0) 48 (λ q. omega (arith, first-decimal n (omega arith) small)))
+      | inl e ↦ and-right (eqb (getD (decimal n) 0 0) 48) (ltb 1 (length (decimal n))) (le-ltb 1 (length (decimal n)) (omega (arith, ap length (decimal-digit n (omega arith)))))
+      | inr e ↦ and-left (eqb (getD (decimal n) 0 0) 48) (ltb 1 (length (decimal n))) (ne-eqb (getD (decimal n) 0 0) 48 (λ q. omega (arith, first-decimal n (omega arith) small)))
     ]
 
 -- and the other way round
@@ -198,8 +199,8 @@ some-same k l e = cc
 one-of : (c : ℕ) (k tried : Kind) (others : Option Kind) → (others ≡ Some k → letter k ≡ c) → cond (eqb c (letter tried)) (Some tried) others ≡ Some k → letter k ≡ c
 one-of c k tried others f h =
     elim (cases-bool (eqb c (letter tried))) [
-      inl e ↦ ap letter (sym (some-same tried k (sym (ap (λ b. cond b (Some tried) others) e) ∙ h))) ∙ sym (eqb-true c (letter tried) e)
-    | inr e ↦ f (sym (ap (λ b. cond b (Some tried) others) e) ∙ h)
+      | inl e ↦ ap letter (sym (some-same tried k (sym (ap (λ b. cond b (Some tried) others) e) ∙ h))) ∙ sym (eqb-true c (letter tried) e)
+      | inr e ↦ f (sym (ap (λ b. cond b (Some tried) others) e) ∙ h)
     ]
 
 letter-said : (c : ℕ) (k : Kind) → kind-of c ≡ Some k → letter k ≡ c

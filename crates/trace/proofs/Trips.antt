@@ -32,8 +32,7 @@ use Rattle.trace.proofs.Saying.{line-said, line-written, body, body-ended, fre
 line-cut : (place : LinePlace) (bs : List ℕ) (a : Act) (k : ℕ) → first-line place bs ≡ Ok (a, k) → (bs ≡ line-of a ++ drop k bs) × (k ≡ length (line-of a))
 line-cut place bs a k e =
     let s = first-said place bs a k e in
-    let said = line-said (before 10 bs) a (s .0) in
-    (
+    let said = line-said (before 10 bs) a (s .0) in (
       split-ended 10 bs (s .2) ∙ sym (append-assoc (before 10 bs) (10 ∷ []) (behind 10 bs)) ∙ ap (λ l. l ++ behind 10 bs) said ∙ ap (λ m. line-of a ++ drop m bs) (sym (s .1)),
       s .1 ∙ sym (length-append (before 10 bs) (10 ∷ [])) ∙ ap length said,
     )
@@ -87,8 +86,8 @@ law-holds (suc m) room n start (b ∷ bs) h = go (first-line (place-of n start) 
         let g = good-line room n start (b ∷ bs) (p .0) (p .1) e in
         let later = reading (room - 1) (n + 1) (start + p .1) (parted 10 (drop (p .1) (b ∷ bs))) in
         elim (cases-eq room 0) [
-          inl z ↦ subst (Law room n start (b ∷ bs)) (sym (g .0 ∙ ap (λ t. cond t (ends (Some (Full n))) (also (p .0) later)) (eq-eqb room 0 z))) (stops room n start (b ∷ bs) (Some (Full n)) (sym z, refl, (p, e)))
-        | inr nz ↦ subst (Law room n start (b ∷ bs)) (sym (g .0 ∙ ap (λ t. cond t (ends (Some (Full n))) (also (p .0) later)) (ne-eqb room 0 nz))) (goes-on room n start (b ∷ bs) (p .0) (p .1) later e (omega arith) (ih (room - 1) (n + 1) (start + p .1) (drop (p .1) (b ∷ bs)) (omega (arith, g .1, length-drop (p .1) (b ∷ bs)))))
+          | inl z ↦ subst (Law room n start (b ∷ bs)) (sym (g .0 ∙ ap (λ t. cond t (ends (Some (Full n))) (also (p .0) later)) (eq-eqb room 0 z))) (stops room n start (b ∷ bs) (Some (Full n)) (sym z, refl, (p, e)))
+          | inr nz ↦ subst (Law room n start (b ∷ bs)) (sym (g .0 ∙ ap (λ t. cond t (ends (Some (Full n))) (also (p .0) later)) (ne-eqb room 0 nz))) (goes-on room n start (b ∷ bs) (p .0) (p .1) later e (omega arith) (ih (room - 1) (n + 1) (start + p .1) (drop (p .1) (b ∷ bs)) (omega (arith, g .1, length-drop (p .1) (b ∷ bs)))))
         ]
 
 -- the first bad line decides

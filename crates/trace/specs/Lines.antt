@@ -21,6 +21,7 @@ use Rattle.trace.specs.declared.fault.FieldFault.the-variants.{NoKind, Number,
 use Rattle.trace.specs.declared.fault.LineCause.{LineCause}
 use Rattle.trace.specs.declared.fault.LineCause.the-variants.{Unended, FewFields, ManyFields, Field}
 use Rattle.trace.specs.Kinds.{kind-of, letter}
+use Rattle.trace.specs.Limits.{limit}
 use Rattle.trace.specs.Numbers.{number-of}
 use Rattle.trace.specs.Pieces.{parted}
 
@@ -30,12 +31,6 @@ line-end = 10
 
 abbrev pub comma : ℕ
 comma = 44
-
--- the largest number that a field may hold
-abbrev pub limit : Column → ℕ
-limit Job = 4294967295
-limit Item = 63
-limit Value = 4294967295
 
 -- a result carried on where it is good
 abbrev pub and-then : {X Y F : Type 0} → Result X F → (X → Result Y F) → Result Y F

@@ -13,7 +13,8 @@ use Rattle.trace.specs.declared.act.Act.{Act}
 use Rattle.trace.specs.declared.fault.Column.the-variants.{Item}
 use Rattle.trace.specs.declared.fault.WriteRefusal.{WriteRefusal}
 use Rattle.trace.specs.declared.fault.WriteRefusal.the-variants.{ItemAboveLimit, DoesNotFit}
-use Rattle.trace.specs.Lines.{limit, item-of, line-of}
+use Rattle.trace.specs.Limits.{limit}
+use Rattle.trace.specs.Lines.{item-of, line-of}
 
 -- bytes with others put over them from a place on
 abbrev pub over : ℕ → List ℕ → List ℕ → List ℕ

@@ -1,4 +1,5 @@
 ghost use mathlib.Core.Path.{_≡_};
+ghost use Rattle.trace.specs.Limits.{limit};
 ghost use Rattle.trace.specs.Refusals.{cause-of, field-of, read-number, write-number};
 
 // What is wrong with a field that is filled and has to be a number.
@@ -14,6 +15,19 @@ pub enum Column {
     Job,
     Item,
     Value,
+}
+
+impl Column {
+    // The largest number that the field may hold.
+    pub fn limit(self) -> u32
+        ensures { λ r. ⌜ r ≡ limit self ⌝ }
+    {
+        match self {
+            Column::Job => 4294967295,
+            Column::Item => 63,
+            Column::Value => 4294967295,
+        }
+    }
 }
 
 // The first field at fault in a line of four: which one, and what is wrong with it.
@@ -58,8 +72,18 @@ impl LineFault {
             LineCause::FewFields => 2,
             LineCause::ManyFields => 3,
             LineCause::Field(FieldFault::NoKind) => 4,
-            LineCause::Field(FieldFault::Number { column: _, fault: NumberFault::AboveLimit }) => 5,
-            LineCause::Field(FieldFault::Number { column: _, fault: NumberFault::NotANumber }) => 6,
+            LineCause::Field(
+                FieldFault::Number {
+                    column: _,
+                    fault: NumberFault::AboveLimit,
+                },
+            ) => 5,
+            LineCause::Field(
+                FieldFault::Number {
+                    column: _,
+                    fault: NumberFault::NotANumber,
+                },
+            ) => 6,
             LineCause::Field(FieldFault::Empty { column: _ }) => 7,
             LineCause::Field(FieldFault::Filled { column: _ }) => 8,
         }

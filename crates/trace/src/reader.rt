@@ -1,15 +1,12 @@
 ghost use mathlib.Core.Path.{_≡_};
 ghost use lib.ListN.{length};
-ghost use Rattle.trace.specs.Traces.{reading-of, reading-of-input, answer, list-after, first-line, FirstBadLineDecides, ReadsWhatWasWritten, WritesBack};
+ghost use Rattle.trace.specs.Traces.{reading-of, reading-of-input, answer, list-after, FirstBadLineDecides, ReadsWhatWasWritten, WritesBack};
 ghost use Rattle.trace.specs.declared.fault.ReadRefusal.the-variants.{Line};
-use crate::act::Act;
 use crate::act::Step;
-use crate::fault::LineCause;
 use crate::fault::LineFault;
 use crate::fault::LinePlace;
 use crate::fault::ReadRefusal;
-use crate::line::read_line;
-use crate::scan::find;
+use crate::line::first_line;
 
 impl From<LineFault> for ReadRefusal as LineInTrace {
     ghost converts = { λ e r. r ≡ Line e };
@@ -17,18 +14,6 @@ impl From<LineFault> for ReadRefusal as LineInTrace {
     fn from(e: LineFault) -> ReadRefusal {
         ReadRefusal::Line(e)
     }
-}
-
-// The act of the first line of the bytes, and its length with its line end.
-fn first_line(bytes: &[u8], place: LinePlace) -> Result<(Act, usize), LineFault>
-    ensures { λ r. ⌜ r ≡ first-line place (now (bytes .entry)) ⌝ }
-{
-    let end = find(bytes, b'\n');
-    if end == bytes.len() {
-        return Err(LineFault { place, what: LineCause::Unended });
-    }
-    let act = read_line(&bytes[0..end], place)?;
-    Ok((act, end + 1))
 }
 
 // Reads every line of a trace into the lent list, and answers how many there are.
@@ -45,12 +30,18 @@ pub fn read_trace(bytes: &[u8], steps: &mut [Step]) -> Result<usize, ReadRefusal
     let mut count = 0;
     let mut start = 0;
     while start < bytes.len() {
-        let place = LinePlace { line: count + 1, start };
+        let place = LinePlace {
+            line: count + 1,
+            start,
+        };
         let (act, length) = first_line(&bytes[start..], place)?;
         if count == steps.len() {
             return Err(ReadRefusal::Full { line: count + 1 });
         }
-        steps[count] = Step { line: count + 1, act };
+        steps[count] = Step {
+            line: count + 1,
+            act,
+        };
         count += 1;
         start += length;
     }

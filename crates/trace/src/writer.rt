@@ -2,8 +2,11 @@ ghost use mathlib.Core.Path.{_≡_};
 ghost use mathlib.Core.List.{[], _∷_, _++_};
 ghost use Prim.Native.Nat.{ℕ, _+_, _≤_};
 ghost use lib.ListN.{length};
+ghost use Rattle.std.specs.Written.{decimal};
 ghost use Rattle.std.specs.declared.result.Result.the-variants.{Ok};
 ghost use Rattle.trace.specs.declared.fault.Column.the-variants.{Job, Item, Value};
+ghost use Rattle.trace.specs.Kinds.{letter};
+ghost use Rattle.trace.specs.declared.kind.Kind.{Kind as AnyKind};
 ghost use Rattle.trace.specs.Lines.{field-text, job-of, item-of, value-of, kind-of-act, line-of, Within, Sayable};
 ghost use Rattle.trace.specs.Traces.{LineReadsBack, TraceReadsBack, AllSayable, written};
 ghost use Rattle.trace.specs.Writing.{over, writing, writing-all, laid, item-checked};
@@ -11,19 +14,80 @@ use crate::act::Act;
 use crate::fault::Column;
 use crate::fault::WriteRefusal;
 use crate::kind::Kind;
-use crate::kind::byte_of;
-use crate::kind::letter_of;
-use crate::line::limit_of;
-use crate::number::digits_len;
-use crate::number::put_number;
+
+// The letter of a kind.
+fn letter_of(kind: Kind) -> char
+    ensures { λ r. ⌜ r ≡ letter kind ⌝ }
+{
+    match kind {
+        Kind::Open => 'O',
+        Kind::Read => 'R',
+        Kind::Write => 'W',
+        Kind::Commit => 'C',
+        Kind::Abort => 'A',
+        Kind::Peek => 'P',
+        Kind::Retire => 'T',
+    }
+}
+
+// The byte that a kind's letter is written as.
+fn byte_of(c: char) -> u8
+    requires { ⌜ ((k : AnyKind) × (c ≡ letter k)) ⌝ }
+    ensures { λ r. ⌜ r ≡ c ⌝ }
+{
+    match c {
+        'O' => b'O',
+        'R' => b'R',
+        'W' => b'W',
+        'C' => b'C',
+        'A' => b'A',
+        'P' => b'P',
+        'T' => b'T',
+        _ => unreachable(),
+    }
+}
+
+// How many digits a number has.
+fn digits_len(n: u32) -> usize
+    ensures value { λ r. ⌜ r ≡ length (decimal n) ⌝ }
+    ensures bound { λ r. ⌜ r ≤ 10 ⌝ }
+{
+    if n < 10 {
+        return 1;
+    }
+    digits_len(n / 10) + 1
+}
+
+// Writes the digits of a number from a place on, and answers the place behind them.
+fn put_number(out: &mut [u8], place: usize, n: u32) -> usize
+    requires { ⌜ place + length (decimal n) ≤ length (now out) ⌝ }
+    ensures end { λ r. ⌜ r ≡ place + length (decimal n) ⌝ }
+    ensures after { λ _. ⌜ now (out .exit) ≡ over place (decimal n) (now (out .entry)) ⌝ }
+{
+    if n < 10 {
+        out[place] = b'0' + n as u8;
+        return place + 1;
+    }
+    let end = put_number(out, place, n / 10);
+    out[end] = b'0' + (n % 10) as u8;
+    end + 1
+}
 
 fn kind_of_act(act: &Act) -> Kind
     ensures { λ r. ⌜ r ≡ kind-of-act (now (act .entry)) ⌝ }
 {
     match act {
         Act::Open { job: _ } => Kind::Open,
-        Act::Read { job: _, item: _, value: _ } => Kind::Read,
-        Act::Write { job: _, item: _, value: _ } => Kind::Write,
+        Act::Read {
+            job: _,
+            item: _,
+            value: _,
+        } => Kind::Read,
+        Act::Write {
+            job: _,
+            item: _,
+            value: _,
+        } => Kind::Write,
         Act::Commit { job: _ } => Kind::Commit,
         Act::Abort { job: _ } => Kind::Abort,
         Act::Peek { item: _, value: _ } => Kind::Peek,
@@ -37,8 +101,16 @@ fn job_of(act: &Act) -> Option<u32>
 {
     match act {
         Act::Open { job } => Some(*job),
-        Act::Read { job, item: _, value: _ } => Some(*job),
-        Act::Write { job, item: _, value: _ } => Some(*job),
+        Act::Read {
+            job,
+            item: _,
+            value: _,
+        } => Some(*job),
+        Act::Write {
+            job,
+            item: _,
+            value: _,
+        } => Some(*job),
         Act::Commit { job } => Some(*job),
         Act::Abort { job } => Some(*job),
         Act::Peek { item: _, value: _ } => None,
@@ -50,8 +122,16 @@ fn item_of(act: &Act) -> Option<u32>
     ensures { λ r. ⌜ r ≡ item-of (now (act .entry)) ⌝ }
 {
     match act {
-        Act::Read { job: _, item, value: _ } => Some(*item),
-        Act::Write { job: _, item, value: _ } => Some(*item),
+        Act::Read {
+            job: _,
+            item,
+            value: _,
+        } => Some(*item),
+        Act::Write {
+            job: _,
+            item,
+            value: _,
+        } => Some(*item),
         Act::Peek { item, value: _ } => Some(*item),
         Act::Open { job: _ } => None,
         Act::Commit { job: _ } => None,
@@ -65,8 +145,16 @@ fn value_of(act: &Act) -> Option<u32>
     ensures bound { λ _. ⌜ Within Value (value-of (now (act .entry))) ⌝ }
 {
     match act {
-        Act::Read { job: _, item: _, value } => Some(*value),
-        Act::Write { job: _, item: _, value } => Some(*value),
+        Act::Read {
+            job: _,
+            item: _,
+            value,
+        } => Some(*value),
+        Act::Write {
+            job: _,
+            item: _,
+            value,
+        } => Some(*value),
         Act::Peek { item: _, value } => Some(*value),
         Act::Open { job: _ } => None,
         Act::Commit { job: _ } => None,
@@ -100,7 +188,7 @@ fn check_item(item: Option<u32>) -> Result<(), WriteRefusal>
 {
     match item {
         Some(x) => {
-            if x > limit_of(Column::Item) {
+            if x > Column::Item.limit() {
                 return Err(WriteRefusal::ItemAboveLimit { item: x });
             }
             Ok(())

@@ -18,7 +18,7 @@ kept : (bytes : List ℕ) (entry exit : List Step) (r : Result ℕ ReadRefusal) 
   listed : exit ≡ list-after entry (reading-of bytes (length entry));
   first-bad-line-decides : FirstBadLineDecides bytes entry exit r;
   reads-what-was-written : ReadsWhatWasWritten bytes entry exit r;
-  writes-back : WritesBack bytes exit r
+  writes-back : WritesBack bytes exit r;
 }
 kept bytes entry exit r e l = record {
   answered = e;

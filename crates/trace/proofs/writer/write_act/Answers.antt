@@ -6,7 +6,7 @@ use Rattle.trace.proofs.Saying.{same-ok}
 use Rattle.trace.proofs.writer.write_act.Needs as need
 
 pub returns : need.returns
-returns c = 
+returns c =
     let act = c .args .act .now in
     let out = c .args .out .now in
     let said = c .in-Continue-length .ensures tt in

@@ -10,7 +10,7 @@ pub put-lines-requires : need.put-lines-requires
 put-lines-requires c κs = omega (arith, writing-all-says (c .args .acts .now) (length (c .args .out .now)) (c .in-Continue-length .length) (sym (c .in-Continue-length .ensures tt .answered)))
 
 pub returns : need.returns
-returns c = 
+returns c =
     let acts = c .args .acts .now in
     let out = c .args .out .now in
     let said = c .in-Continue-length .ensures tt in

@@ -1,7 +1,7 @@
 use mathlib.Core.Path.{sym}
 use Rattle.std.proofs.shelf.Results.{err-from-errBy}
 use Rattle.trace.proofs.Readings.{first-good, first-bad}
-use Rattle.trace.proofs.reader.first_line.Needs as need
+use Rattle.trace.proofs.line.first_line.Needs as need
 
 pub returns-in-Break-act : need.returns-in-Break-act
 returns-in-Break-act c =

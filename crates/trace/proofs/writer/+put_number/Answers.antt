@@ -3,7 +3,7 @@ use native.Mathlib.Omega.{arith}
 use Prim.Native.Nat.{_+_, _%_, _/_}
 use lib.ListN.{set, length}
 use Rattle.trace.proofs.Laying.{length-digit, length-digits, length-decimal, length-over, over-digit, over-digits}
-use Rattle.trace.proofs.number.+put_number.Needs as need
+use Rattle.trace.proofs.writer.+put_number.Needs as need
 
 pub index-out-place : need.index-out-place
 index-out-place t c = omega (arith, length-digit (c .args .n) (c .if-n-lt10 .taken))
@@ -27,6 +27,6 @@ pub returns : need.returns
 returns t c = record {
   end = omega (arith, length-digits (c .args .n) (c .if-n-lt10 .left) (omega arith), c .put-number-end .ensures .end);
   after =
-    (λ i. set (c .put-number-end .ensures .after i) (c .put-number-end .ensures .end i) (48 + c .args .n % 10))
-    ∙ over-digits (c .args .out .now) (c .args .place) (c .args .n) (c .if-n-lt10 .left) (omega arith) (c .pre);
+      (λ i. set (c .put-number-end .ensures .after i) (c .put-number-end .ensures .end i) (48 + c .args .n % 10))
+      ∙ over-digits (c .args .out .now) (c .args .place) (c .args .n) (c .if-n-lt10 .left) (omega arith) (c .pre);
 }

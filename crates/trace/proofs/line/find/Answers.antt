@@ -1,6 +1,6 @@
 use native.Mathlib.Omega.{arith}
 use Rattle.trace.proofs.Parting.{before-more, before-stop, before-end}
-use Rattle.trace.proofs.scan.find.Needs as need
+use Rattle.trace.proofs.line.find.Needs as need
 
 pub loop-i-again : need.loop-i-again
 loop-i-again c = omega (arith, before-more (c .args .separator) (c .args .bytes .now) (c .loop-i .i) (c .loop-i-test .taken) (c .if-bytes-i .taken))

@@ -1,6 +1,6 @@
 use native.Mathlib.Omega.{arith}
 use Rattle.trace.proofs.Laying.{length-digit, length-digits, length-decimal}
-use Rattle.trace.proofs.number.+digits_len.Needs as need
+use Rattle.trace.proofs.writer.+digits_len.Needs as need
 
 pub returns-then-n-lt10 : need.returns-then-n-lt10
 returns-then-n-lt10 t c = omega (arith, length-digit (c .args .n) (c .if-n-lt10 .taken))
