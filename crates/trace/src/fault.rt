@@ -74,18 +74,18 @@ impl LineFault {
             LineCause::Field(FieldFault::NoKind) => 4,
             LineCause::Field(
                 FieldFault::Number {
-                    column: _,
                     fault: NumberFault::AboveLimit,
+                    ..
                 },
             ) => 5,
             LineCause::Field(
                 FieldFault::Number {
-                    column: _,
                     fault: NumberFault::NotANumber,
+                    ..
                 },
             ) => 6,
-            LineCause::Field(FieldFault::Empty { column: _ }) => 7,
-            LineCause::Field(FieldFault::Filled { column: _ }) => 8,
+            LineCause::Field(FieldFault::Empty { .. }) => 7,
+            LineCause::Field(FieldFault::Filled { .. }) => 8,
         }
     }
 
@@ -96,7 +96,7 @@ impl LineFault {
         match self.what {
             LineCause::Unended | LineCause::FewFields | LineCause::ManyFields => 0,
             LineCause::Field(FieldFault::NoKind) => 1,
-            LineCause::Field(FieldFault::Number { column, fault: _ }) => column_number(column),
+            LineCause::Field(FieldFault::Number { column, .. }) => column_number(column),
             LineCause::Field(FieldFault::Empty { column }) => column_number(column),
             LineCause::Field(FieldFault::Filled { column }) => column_number(column),
         }
@@ -129,7 +129,7 @@ impl ReadRefusal {
     {
         match self {
             ReadRefusal::Line(_) => 9,
-            ReadRefusal::Full { line: _ } => 13,
+            ReadRefusal::Full { .. } => 13,
         }
     }
 }
@@ -147,8 +147,8 @@ impl WriteRefusal {
         ensures { λ r. ⌜ r ≡ write-number (now (self .entry)) ⌝ }
     {
         match self {
-            WriteRefusal::ItemAboveLimit { item: _ } => 5,
-            WriteRefusal::DoesNotFit { length: _ } => 14,
+            WriteRefusal::ItemAboveLimit { .. } => 5,
+            WriteRefusal::DoesNotFit { .. } => 14,
         }
     }
 }

@@ -73,92 +73,64 @@ fn put_number(out: &mut [u8], place: usize, n: u32) -> usize
     end + 1
 }
 
+// The kind of an act.
 fn kind_of_act(act: &Act) -> Kind
     ensures { λ r. ⌜ r ≡ kind-of-act (now (act .entry)) ⌝ }
 {
     match act {
-        Act::Open { job: _ } => Kind::Open,
-        Act::Read {
-            job: _,
-            item: _,
-            value: _,
-        } => Kind::Read,
-        Act::Write {
-            job: _,
-            item: _,
-            value: _,
-        } => Kind::Write,
-        Act::Commit { job: _ } => Kind::Commit,
-        Act::Abort { job: _ } => Kind::Abort,
-        Act::Peek { item: _, value: _ } => Kind::Peek,
+        Act::Open { .. } => Kind::Open,
+        Act::Read { .. } => Kind::Read,
+        Act::Write { .. } => Kind::Write,
+        Act::Commit { .. } => Kind::Commit,
+        Act::Abort { .. } => Kind::Abort,
+        Act::Peek { .. } => Kind::Peek,
         Act::Retire => Kind::Retire,
     }
 }
 
+// The job that an act names.
 fn job_of(act: &Act) -> Option<u32>
     ensures value { λ r. ⌜ r ≡ job-of (now (act .entry)) ⌝ }
     ensures bound { λ _. ⌜ Within Job (job-of (now (act .entry))) ⌝ }
 {
     match act {
         Act::Open { job } => Some(*job),
-        Act::Read {
-            job,
-            item: _,
-            value: _,
-        } => Some(*job),
-        Act::Write {
-            job,
-            item: _,
-            value: _,
-        } => Some(*job),
+        Act::Read { job, .. } => Some(*job),
+        Act::Write { job, .. } => Some(*job),
         Act::Commit { job } => Some(*job),
         Act::Abort { job } => Some(*job),
-        Act::Peek { item: _, value: _ } => None,
+        Act::Peek { .. } => None,
         Act::Retire => None,
     }
 }
 
+// The item that an act names.
 fn item_of(act: &Act) -> Option<u32>
     ensures { λ r. ⌜ r ≡ item-of (now (act .entry)) ⌝ }
 {
     match act {
-        Act::Read {
-            job: _,
-            item,
-            value: _,
-        } => Some(*item),
-        Act::Write {
-            job: _,
-            item,
-            value: _,
-        } => Some(*item),
-        Act::Peek { item, value: _ } => Some(*item),
-        Act::Open { job: _ } => None,
-        Act::Commit { job: _ } => None,
-        Act::Abort { job: _ } => None,
+        Act::Read { item, .. } => Some(*item),
+        Act::Write { item, .. } => Some(*item),
+        Act::Peek { item, .. } => Some(*item),
+        Act::Open { .. } => None,
+        Act::Commit { .. } => None,
+        Act::Abort { .. } => None,
         Act::Retire => None,
     }
 }
 
+// The value that an act carries.
 fn value_of(act: &Act) -> Option<u32>
     ensures value { λ r. ⌜ r ≡ value-of (now (act .entry)) ⌝ }
     ensures bound { λ _. ⌜ Within Value (value-of (now (act .entry))) ⌝ }
 {
     match act {
-        Act::Read {
-            job: _,
-            item: _,
-            value,
-        } => Some(*value),
-        Act::Write {
-            job: _,
-            item: _,
-            value,
-        } => Some(*value),
-        Act::Peek { item: _, value } => Some(*value),
-        Act::Open { job: _ } => None,
-        Act::Commit { job: _ } => None,
-        Act::Abort { job: _ } => None,
+        Act::Read { value, .. } => Some(*value),
+        Act::Write { value, .. } => Some(*value),
+        Act::Peek { value, .. } => Some(*value),
+        Act::Open { .. } => None,
+        Act::Commit { .. } => None,
+        Act::Abort { .. } => None,
         Act::Retire => None,
     }
 }

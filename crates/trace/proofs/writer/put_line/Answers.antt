@@ -21,10 +21,6 @@ pub put-field-requires : need.put-field-requires
 put-field-requires c κs =
     omega (arith, c .pre, length-line (c .args .act .now), length-text _ _ (c .job-of .ensures .value), length-text _ _ (c .item-of .ensures), length-text _ _ (c .value-of .ensures .value), c .put-field-item .ensures .end, c .put-field-value .ensures .end, simp length-set at (c .put-field-item .kept .out), c .put-field-value .kept .out)
 
-omega-fits : (c : need.After-slice-known-4·1) → c .args .place + length (lined (c .byte-of .result) (field-text (c .job-of .result)) (field-text (c .item-of .result)) (field-text (c .value-of .result))) ≤ length (c .args .out .now)
-omega-fits c =
-    omega (arith, c .pre, length-line (c .args .act .now), length-lined (c .byte-of .result) (field-text (c .job-of .result)) (field-text (c .item-of .result)) (field-text (c .value-of .result)), length-text _ _ (c .job-of .ensures .value), length-text _ _ (c .item-of .ensures), length-text _ _ (c .value-of .ensures .value))
-
 pub returns : need.returns
 returns c =
     let out = c .args .out .now in
@@ -34,7 +30,8 @@ returns c =
     let v = field-text (c .value-of .result) in
     let b = c .byte-of .result in
     let named = c .byte-of .ensures ∙ c .letter-of .ensures ∙ ap letter (c .kind-of-act .ensures) in
-    let fits = omega-fits c in
+    let fits : place + length (lined b j x v) ≤ length out =
+        omega (arith, c .pre, length-line (c .args .act .now), length-lined b j x v, length-text _ _ (c .job-of .ensures .value), length-text _ _ (c .item-of .ensures), length-text _ _ (c .value-of .ensures .value)) in
     c .put-field .ensures .after
     ∙ ap (over (c .put-field-value .result) (v ++ 10 ∷ [])) (c .put-field-value .ensures .after ∙ ap (over (c .put-field-item .result) (x ++ 44 ∷ [])) (c .put-field-item .ensures .after))
     ∙ over-line out place b (c .put-field-item .result) (c .put-field-value .result) j x v (c .put-field-item .ensures .end) (c .put-field-value .ensures .end) fits
