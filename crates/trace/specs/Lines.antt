@@ -25,10 +25,11 @@ use Rattle.trace.specs.Limits.{limit}
 use Rattle.trace.specs.Numbers.{number-of}
 use Rattle.trace.specs.Pieces.{parted}
 
--- a byte that ends a line, and one that parts its fields
+-- the byte that ends a line
 abbrev pub line-end : ℕ
 line-end = 10
 
+-- the byte that parts the fields of a line
 abbrev pub comma : ℕ
 comma = 44
 
@@ -111,7 +112,7 @@ act-in (kind ∷ job ∷ item ∷ value ∷ more ∷ fields) = Err ManyFields
 abbrev pub act-on : List ℕ → Result Act LineCause
 act-on line = act-in (parted comma line)
 
--- the numbers that an act carries
+-- the job that an act names
 abbrev pub job-of : Act → Option ℕ
 job-of (act.Open j) = Some j
 job-of (act.Read j x v) = Some j
@@ -121,6 +122,7 @@ job-of (act.Abort j) = Some j
 job-of (act.Peek x v) = None
 job-of act.Retire = None
 
+-- the item that an act names
 abbrev pub item-of : Act → Option ℕ
 item-of (act.Open j) = None
 item-of (act.Read j x v) = Some x
@@ -130,6 +132,7 @@ item-of (act.Abort j) = None
 item-of (act.Peek x v) = Some x
 item-of act.Retire = None
 
+-- the value that an act carries
 abbrev pub value-of : Act → Option ℕ
 value-of (act.Open j) = None
 value-of (act.Read j x v) = Some v
@@ -139,6 +142,7 @@ value-of (act.Abort j) = None
 value-of (act.Peek x v) = Some v
 value-of act.Retire = None
 
+-- the kind of an act
 abbrev pub kind-of-act : Act → Kind
 kind-of-act (act.Open j) = Open
 kind-of-act (act.Read j x v) = Read

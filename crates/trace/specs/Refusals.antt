@@ -40,10 +40,12 @@ field-of (Field (Number column fault)) = column-number column
 field-of (Field (Empty column)) = column-number column
 field-of (Field (Filled column)) = column-number column
 
+-- the numbers of the reader's refusals
 abbrev pub read-number : ReadRefusal → ℕ
 read-number (Line fault) = 9
 read-number (Full line) = 13
 
+-- the numbers of the writer's refusals
 abbrev pub write-number : WriteRefusal → ℕ
 write-number (ItemAboveLimit item) = 5
 write-number (DoesNotFit length) = 14

@@ -47,9 +47,11 @@ pub record Reading : Type 0 where
   pub acts : List Act
   pub stop : Option ReadRefusal
 
+-- nothing more is read
 abbrev pub ends : Option ReadRefusal → Reading
 ends why = record { acts = []; stop = why }
 
+-- an act read before the others
 abbrev pub also : Act → Reading → Reading
 also a later = record { acts = a ∷ later .acts; stop = later .stop }
 
@@ -57,6 +59,7 @@ also a later = record { acts = a ∷ later .acts; stop = later .stop }
 abbrev pub place-of : ℕ → ℕ → LinePlace
 place-of n start = record { line = n; start = start }
 
+-- the refusal of a line at fault
 abbrev pub at-fault : LinePlace → LineCause → ReadRefusal
 at-fault place what = Line (record { place = place; what = what })
 
@@ -99,6 +102,7 @@ abbrev pub answered : ℕ → Option ReadRefusal → Result ℕ ReadRefusal
 answered count None = Ok count
 answered count (Some why) = Err why
 
+-- what a reading answers
 abbrev pub answer : Reading → Result ℕ ReadRefusal
 answer r = answered (length (r .acts)) (r .stop)
 
@@ -154,5 +158,6 @@ abbrev pub TraceReadsBack : List Act → List ℕ → Result ℕ WriteRefusal �
 TraceReadsBack acts out r =
     (n : ℕ) → r ≡ Ok n → (room : ℕ) → length acts ≤ room → reading-of (take n out) room ≡ record { acts = acts; stop = None }
 
+-- the same of one line
 abbrev pub LineReadsBack : Act → List ℕ → Result ℕ WriteRefusal → Type 0
 LineReadsBack a out r = TraceReadsBack (a ∷ []) out r

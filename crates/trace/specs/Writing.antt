@@ -33,15 +33,17 @@ fitted room n = cond (leb n room) (Ok n) (Err (DoesNotFit n))
 abbrev pub writing : Act → ℕ → Result ℕ WriteRefusal
 writing a room = item-checked (item-of a) (fitted room (length (line-of a)))
 
--- what writing acts one behind the other answers: the length of their lines, or the first refusal
+-- a length added to what the lines behind it come to
 abbrev pub plus : ℕ → Result ℕ WriteRefusal → Result ℕ WriteRefusal
 plus n (Ok m) = Ok (n + m)
 plus n (Err why) = Err why
 
+-- a line that is granted goes on with the others
 abbrev pub writing-on : Result ℕ WriteRefusal → (ℕ → Result ℕ WriteRefusal) → Result ℕ WriteRefusal
 writing-on (Ok n) others = plus n (others n)
 writing-on (Err why) others = Err why
 
+-- what writing acts one behind the other answers: the length of all their lines, or the first refusal
 abbrev pub writing-all : List Act → ℕ → Result ℕ WriteRefusal
 writing-all [] room = Ok 0
 writing-all (a ∷ acts) room = writing-on (writing a room) λ n. writing-all acts (room - n)

@@ -2,7 +2,7 @@ ghost use mathlib.Core.Path.{_≡_};
 ghost use Prim.Native.Nat.{_≤_};
 ghost use lib.ListN.{length};
 ghost use Rattle.trace.specs.Kinds.{kind-of};
-ghost use Rattle.trace.specs.Lines.{filled, vacant, job-alone, all-three, all-but-job, none-filled, act-of, act-on, in-line};
+ghost use Rattle.trace.specs.Lines.{job-alone, all-three, all-but-job, none-filled, act-of, act-on, in-line};
 ghost use Rattle.trace.specs.Pieces.{before, behind, parted};
 ghost use Rattle.trace.specs.Traces.{placed, in-place, first-line};
 ghost use Rattle.trace.specs.declared.fault.FieldFault.the-variants.{Number};
@@ -125,6 +125,7 @@ fn vacant(column: Column, field: &[u8]) -> Result<(), FieldFault>
     }
 }
 
+// The job of a line that fills nothing else.
 fn job_alone(job: &[u8], item: &[u8], value: &[u8]) -> Result<u32, FieldFault>
     ensures { λ r. ⌜ r ≡ job-alone (now (job .entry)) (now (item .entry)) (now (value .entry)) ⌝ }
 {
@@ -134,6 +135,7 @@ fn job_alone(job: &[u8], item: &[u8], value: &[u8]) -> Result<u32, FieldFault>
     Ok(j)
 }
 
+// The job, the item and the value of a line that fills all three.
 fn all_three(job: &[u8], item: &[u8], value: &[u8]) -> Result<(u32, u32, u32), FieldFault>
     ensures { λ r. ⌜ r ≡ all-three (now (job .entry)) (now (item .entry)) (now (value .entry)) ⌝ }
 {
@@ -143,6 +145,7 @@ fn all_three(job: &[u8], item: &[u8], value: &[u8]) -> Result<(u32, u32, u32), F
     Ok((j, x, v))
 }
 
+// The item and the value of a line that fills these two.
 fn all_but_job(job: &[u8], item: &[u8], value: &[u8]) -> Result<(u32, u32), FieldFault>
     ensures { λ r. ⌜ r ≡ all-but-job (now (job .entry)) (now (item .entry)) (now (value .entry)) ⌝ }
 {
@@ -152,6 +155,7 @@ fn all_but_job(job: &[u8], item: &[u8], value: &[u8]) -> Result<(u32, u32), Fiel
     Ok((x, v))
 }
 
+// A line that fills nothing behind its kind.
 fn none_filled(job: &[u8], item: &[u8], value: &[u8]) -> Result<(), FieldFault>
     ensures { λ r. ⌜ r ≡ none-filled (now (job .entry)) (now (item .entry)) (now (value .entry)) ⌝ }
 {

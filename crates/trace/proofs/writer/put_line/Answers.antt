@@ -31,7 +31,7 @@ returns c =
     let b = c .byte-of .result in
     let named = c .byte-of .ensures ∙ c .letter-of .ensures ∙ ap letter (c .kind-of-act .ensures) in
     let fits : place + length (lined b j x v) ≤ length out =
-        omega (arith, c .pre, length-line (c .args .act .now), length-lined b j x v, length-text _ _ (c .job-of .ensures .value), length-text _ _ (c .item-of .ensures), length-text _ _ (c .value-of .ensures .value)) in
+    omega (arith, c .pre, length-line (c .args .act .now), length-lined b j x v, length-text _ _ (c .job-of .ensures .value), length-text _ _ (c .item-of .ensures), length-text _ _ (c .value-of .ensures .value)) in
     c .put-field .ensures .after
     ∙ ap (over (c .put-field-value .result) (v ++ 10 ∷ [])) (c .put-field-value .ensures .after ∙ ap (over (c .put-field-item .result) (x ++ 44 ∷ [])) (c .put-field-item .ensures .after))
     ∙ over-line out place b (c .put-field-item .result) (c .put-field-value .result) j x v (c .put-field-item .ensures .end) (c .put-field-value .ensures .end) fits
