@@ -1,5 +1,6 @@
 ghost use mathlib.Core.Path.{_≡_};
-ghost use lib.ListN.{length};
+ghost use Prim.Native.Nat.{_<_};
+ghost use lib.ListN.{length, set};
 ghost use Rattle.trace.specs.Traces.{reading-of, reading-of-input, answer, list-after, FirstBadLineDecides, ReadsWhatWasWritten, WritesBack};
 ghost use Rattle.trace.specs.declared.fault.ReadRefusal.the-variants.{Line};
 use crate::act::Step;
@@ -14,6 +15,14 @@ impl From<LineFault> for ReadRefusal as LineInTrace {
     fn from(e: LineFault) -> ReadRefusal {
         ReadRefusal::Line(e)
     }
+}
+
+// Puts a step into a place of the list.
+fn put_step(steps: &mut [Step], i: usize, step: Step)
+    requires { ⌜ i < length (now steps) ⌝ }
+    ensures { λ _. ⌜ now (steps .exit) ≡ set (now (steps .entry)) i step ⌝ }
+{
+    steps[i] = step;
 }
 
 // Reads every line of a trace into the lent list, and answers how many there are.
@@ -38,10 +47,14 @@ pub fn read_trace(bytes: &[u8], steps: &mut [Step]) -> Result<usize, ReadRefusal
         if count == steps.len() {
             return Err(ReadRefusal::Full { line: count + 1 });
         }
-        steps[count] = Step {
-            line: count + 1,
-            act,
-        };
+        put_step(
+            steps,
+            count,
+            Step {
+                line: count + 1,
+                act,
+            },
+        );
         count += 1;
         start += length;
     }
