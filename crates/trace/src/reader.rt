@@ -39,22 +39,12 @@ pub fn read_trace(bytes: &[u8], steps: &mut [Step]) -> Result<usize, ReadRefusal
     let mut count = 0;
     let mut start = 0;
     while start < bytes.len() {
-        let place = LinePlace {
-            line: count + 1,
-            start,
-        };
-        let (act, length) = first_line(&bytes[start..], place)?;
+        let line = count + 1;
+        let (act, length) = first_line(&bytes[start..], LinePlace { line, start })?;
         if count == steps.len() {
-            return Err(ReadRefusal::Full { line: count + 1 });
+            return Err(ReadRefusal::Full { line });
         }
-        put_step(
-            steps,
-            count,
-            Step {
-                line: count + 1,
-                act,
-            },
-        );
+        put_step(steps, count, Step { line, act });
         count += 1;
         start += length;
     }
