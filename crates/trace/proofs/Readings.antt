@@ -29,15 +29,8 @@ use Rattle.trace.proofs.Parting.{take-before, some-piece, parted-unended, part
 
 -- the first line, as the slice up to its end is read
 
-line-told : (place : LinePlace) (bs : List ℕ) (n : ℕ) (r : Result Act LineFault) → Some n ≡ end-of bs → r ≡ in-place place (act-on (take (n - 0) bs)) → with-length (n + 1) r ≡ first-line place bs
-line-told place bs n r e h =
-    ap (with-length (n + 1)) (h ∙ ap (λ m. in-place place (act-on (take m bs))) (sub-zero n)) ∙ ap (line-to place bs) e
-
-pub first-bad : (place : LinePlace) (bs : List ℕ) (n : ℕ) (f : LineFault) → Some n ≡ end-of bs → Err f ≡ in-place place (act-on (take (n - 0) bs)) → Err f ≡ first-line place bs
-first-bad place bs n f e h = line-told place bs n (Err f) e h
-
-pub first-good : (place : LinePlace) (bs : List ℕ) (n : ℕ) (a : Act) → Some n ≡ end-of bs → Ok a ≡ in-place place (act-on (take (n - 0) bs)) → Ok (a, n + 1) ≡ first-line place bs
-first-good place bs n a e h = line-told place bs n (Ok a) e h
+pub line-told : (place : LinePlace) (bs : List ℕ) (n : ℕ) (r : Result Act LineFault) → r ≡ in-place place (act-on (take (n - 0) bs)) → with-length (n + 1) r ≡ line-to place bs (Some n)
+line-told place bs n r h = ap (with-length (n + 1)) (h ∙ ap (λ m. in-place place (act-on (take m bs))) (sub-zero n))
 
 -- the reading, one line on
 

@@ -5,7 +5,7 @@ ghost use Rattle.std.specs.declared.option.Option.the-variants.{Some};
 ghost use Rattle.trace.specs.Kinds.{kind-of};
 ghost use Rattle.trace.specs.Lines.{job-alone, all-three, all-but-job, none-filled, act-of, act-on, in-line};
 ghost use Rattle.trace.specs.Pieces.{before, behind, parted};
-ghost use Rattle.trace.specs.Traces.{placed, in-place, end-of, first-line};
+ghost use Rattle.trace.specs.Traces.{placed, in-place, end-of, line-to, first-line};
 ghost use Rattle.trace.specs.declared.fault.FieldFault.the-variants.{Number};
 ghost use Rattle.trace.specs.declared.fault.LineCause.the-variants.{Field};
 use crate::act::Act;
@@ -247,16 +247,24 @@ fn line_end(bytes: &[u8]) -> Option<usize>
     Some(end)
 }
 
+// The act of the line up to its end, and its length with its line end.
+fn line_to(bytes: &[u8], end: usize, place: LinePlace) -> Result<(Act, usize), LineFault>
+    requires { ⌜ end < length (now bytes) ⌝ }
+    ensures { λ r. ⌜ r ≡ line-to place (now (bytes .entry)) (Some end) ⌝ }
+{
+    let act = read_line(&bytes[0..end], place)?;
+    Ok((act, end + 1))
+}
+
 // The act of the first line of the bytes, and its length with its line end.
 pub fn first_line(bytes: &[u8], place: LinePlace) -> Result<(Act, usize), LineFault>
     ensures { λ r. ⌜ r ≡ first-line place (now (bytes .entry)) ⌝ }
 {
-    let Some(end) = line_end(bytes) else {
-        return Err(LineFault {
+    match line_end(bytes) {
+        Some(end) => line_to(bytes, end, place),
+        None => Err(LineFault {
             place,
             what: LineCause::Unended,
-        });
-    };
-    let act = read_line(&bytes[0..end], place)?;
-    Ok((act, end + 1))
+        }),
+    }
 }

@@ -219,6 +219,18 @@ fn measure(act: &Act, room: usize) -> Result<usize, WriteRefusal>
     fit(line_len(act), room)
 }
 
+// Writes the line of an act into the first bytes, as many as there is room for.
+fn lay_line(act: &Act, out: &mut [u8], room: usize) -> Result<usize, WriteRefusal>
+    requires { ⌜ room ≤ length (now out) ⌝ }
+    ensures answered { λ r. ⌜ r ≡ writing (now (act .entry)) room ⌝ }
+    ensures after { λ r. ⌜ now (out .exit) ≡ laid r (line-of (now (act .entry))) (now (out .entry)) ⌝ }
+    ensures reads_back { λ r. ⌜ LineReadsBack (now (act .entry)) (now (out .exit)) r ⌝ }
+{
+    let length = measure(act, room)?;
+    put_line(out, 0, act);
+    Ok(length)
+}
+
 // Writes an act as a line, with its line end, at the front of the lent bytes, and answers its length.
 //
 // Refused, with no byte changed, for an item that no line may name, and for a line that does not fit.
@@ -227,9 +239,8 @@ pub fn write_act(act: &Act, out: &mut [u8]) -> Result<usize, WriteRefusal>
     ensures after { λ r. ⌜ now (out .exit) ≡ laid r (line-of (now (act .entry))) (now (out .entry)) ⌝ }
     ensures reads_back { λ r. ⌜ LineReadsBack (now (act .entry)) (now (out .exit)) r ⌝ }
 {
-    let length = measure(act, out.len())?;
-    put_line(out, 0, act);
-    Ok(length)
+    let room = out.len();
+    lay_line(act, out, room)
 }
 
 // The length of the lines of acts that can be written with this much room.
@@ -261,6 +272,18 @@ fn put_lines(out: &mut [u8], acts: &[Act])
     }
 }
 
+// Writes the lines of acts into the first bytes, as many as there is room for.
+fn lay_lines(acts: &[Act], out: &mut [u8], room: usize) -> Result<usize, WriteRefusal>
+    requires { ⌜ room ≤ length (now out) ⌝ }
+    ensures answered { λ r. ⌜ r ≡ writing-all (now (acts .entry)) room ⌝ }
+    ensures after { λ r. ⌜ now (out .exit) ≡ laid r (written (now (acts .entry))) (now (out .entry)) ⌝ }
+    ensures reads_back { λ r. ⌜ TraceReadsBack (now (acts .entry)) (now (out .exit)) r ⌝ }
+{
+    let length = measure_all(acts, room)?;
+    put_lines(out, acts);
+    Ok(length)
+}
+
 // Writes acts as a trace at the front of the lent bytes, a line each, and answers its length.
 //
 // Refused, with no byte changed, by the first act that cannot be written behind those before it.
@@ -269,7 +292,6 @@ pub fn write_trace(acts: &[Act], out: &mut [u8]) -> Result<usize, WriteRefusal>
     ensures after { λ r. ⌜ now (out .exit) ≡ laid r (written (now (acts .entry))) (now (out .entry)) ⌝ }
     ensures reads_back { λ r. ⌜ TraceReadsBack (now (acts .entry)) (now (out .exit)) r ⌝ }
 {
-    let length = measure_all(acts, out.len())?;
-    put_lines(out, acts);
-    Ok(length)
+    let room = out.len();
+    lay_lines(acts, out, room)
 }
