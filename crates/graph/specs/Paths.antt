@@ -23,7 +23,6 @@ a ∈ [] = ⊥
 a ∈ (x ∷ xs) = (a ≡ x) ⊎ (a ∈ xs)
 
 infix 40 _∈_
-
 -- no number stands twice in the list
 abbrev pub Distinct : List ℕ → Type 0
 Distinct [] = Unit {0}

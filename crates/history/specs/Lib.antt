@@ -1,3 +1,4 @@
 pub mod Acts
+pub mod Arrangements
 pub mod Conflicts
 pub mod Serial
