@@ -1,3 +1,5 @@
 pub mod Acts
 pub mod Conflicts
 pub mod Serial
+pub mod Refusals
+pub mod Machine
