@@ -3,3 +3,5 @@ pub mod Conflicts
 pub mod Serial
 pub mod Refusals
 pub mod Machine
+pub mod Runs
+pub mod Promises
