@@ -1,1 +1,4 @@
+pub mod Edges
+pub mod Nodes
 pub mod Paths
+pub mod Rows

@@ -1,1 +1,2 @@
-// Directed graphs of at most 64 nodes: path search, topological order, cycles.
+pub mod graph;
+pub mod nodes;

@@ -1,2 +1,4 @@
 pub mod Arrangements
 pub mod Blocks
+pub mod Lists
+pub mod Paths

@@ -1,0 +1,68 @@
+-- The tables of the scheduler, which go by slot, read as the state of the machine, which goes by job
+-- number. Rests on Slots and on the machine.
+use mathlib.Core.Path.{_≡_}
+use mathlib.Core.Bool.{true}
+use mathlib.Core.List.{List}
+use Prim.Native.Nat.{ℕ, _<_, _≤_}
+use lib.ListN.{length, getD}
+use Rattle.std.specs.declared.option.Option.the-variants.{None}
+use Rattle.graph.specs.Nodes.{has}
+use Rattle.history.specs.Machine.{State}
+use Rattle.scheduler.specs.declared.tables.ItemState.{ItemState}
+use Rattle.scheduler.specs.declared.tables.JobTable.{JobTable}
+use Rattle.scheduler.specs.declared.tables.Tables.{Tables}
+use Rattle.scheduler.specs.declared.slots.Slot.{Slot}
+use Rattle.scheduler.specs.Slots.{status-of, taken, belongs, slot, slot-of}
+
+-- an item that no job has touched
+abbrev pub idle : ItemState
+idle = record { held = None; readers = 0; writers = 0 }
+
+-- item x of the table; past its end nothing was touched
+abbrev pub item : List ItemState → ℕ → ItemState
+item items x = getD items x idle
+
+-- slot b has a mark of slot a: an edge leads from a to b
+abbrev pub row : List ℕ → ℕ → ℕ
+row rows b = getD rows b 0
+
+-- the state of the machine that the tables stand for, over a store with these values and this room
+unfoldable pub state : Tables → List ℕ → ℕ → State
+state t values room =
+    record
+    { slots = 32
+    ; next = t .next
+    ; status = λ j. status-of (slot (t .jobs .slots) (slot-of j (t .jobs .slots)) .status)
+    ; held = λ x. item (t .items) x .held
+    ; readers = λ x j. has (item (t .items) x .readers) (slot-of j (t .jobs .slots))
+    ; writers = λ x j. has (item (t .items) x .writers) (slot-of j (t .jobs .slots))
+    ; edges = λ i j. has (row (t .jobs .edges) (slot-of j (t .jobs .slots))) (slot-of i (t .jobs .slots))
+    ; values = values
+    ; room = room
+    }
+
+-- slot k is taken
+abbrev pub Taken : List Slot → ℕ → Type 0
+Taken slots k = taken (slot slots k .status) ≡ true
+
+-- how long the tables are, and how far the numbers may go
+abbrev pub Sized : Tables → Type 0
+Sized t =
+    (length (t .jobs .slots) ≡ 32) × (length (t .jobs .edges) ≡ 32) × (length (t .items) ≡ 64) × (t .next ≤ 4294967296)
+
+-- a job has one slot, and a number that was given out
+abbrev pub Numbered : Tables → Type 0
+Numbered t =
+    ((a b j : ℕ) → belongs j (slot (t .jobs .slots) a) ≡ true → belongs j (slot (t .jobs .slots) b) ≡ true → a ≡ b)
+    × ((a j : ℕ) → belongs j (slot (t .jobs .slots) a) ≡ true → j < t .next)
+
+-- marks are of taken slots only
+abbrev pub Marked : Tables → Type 0
+Marked t =
+    ((a b : ℕ) → has (row (t .jobs .edges) b) a ≡ true → Taken (t .jobs .slots) a × Taken (t .jobs .slots) b)
+    × ((x a : ℕ) → has (item (t .items) x .readers) a ≡ true → Taken (t .jobs .slots) a)
+    × ((x a : ℕ) → has (item (t .items) x .writers) a ≡ true → Taken (t .jobs .slots) a)
+
+-- what holds of the tables between calls
+abbrev pub Sound : Tables → Type 0
+Sound t = Sized t × Numbered t × Marked t

@@ -1,0 +1,9 @@
+// The hub's machine as code, without the store: which jobs are present, who holds, reads and writes
+// each item, and the edges between jobs. The code works by slot; its contracts speak of job numbers.
+//
+// slots    the slots of the job table
+// tables   the job table, the item states and the next number
+// opening  opening a job
+mod opening;
+pub mod slots;
+pub mod tables;

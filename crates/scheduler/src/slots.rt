@@ -1,0 +1,73 @@
+// The slots of the job table, and how a job's is found.
+ghost use mathlib.Core.Path.{_≡_};
+ghost use Rattle.scheduler.specs.declared.slots.SlotStatus.the-variants.{Running};
+ghost use Rattle.scheduler.specs.Slots.{slot-of, first, is-free as free, belongs as taken-by};
+
+// What a slot says of its job.
+#[derive(Clone, Copy, PartialEq, Eq, Debug)]
+pub enum SlotStatus {
+    Free,
+    Running,
+    Committed,
+}
+
+// A place of the job table: free, or taken by one job. The number of a free slot means nothing.
+#[derive(Clone, Copy, PartialEq, Eq, Debug)]
+pub struct Slot {
+    pub job: u32,
+    pub status: SlotStatus,
+}
+
+// Whether the slot is taken by the job.
+pub fn belongs(slot: &Slot, job: u32) -> bool
+    ensures { λ r. ⌜ r ≡ taken-by job (now (slot .entry)) ⌝ }
+{
+    match slot.status {
+        SlotStatus::Free => false,
+        SlotStatus::Running => slot.job == job,
+        SlotStatus::Committed => slot.job == job,
+    }
+}
+
+// Whether no job has the slot.
+pub fn is_free(slot: &Slot) -> bool
+    ensures { λ r. ⌜ r ≡ free (now (slot .entry)) ⌝ }
+{
+    match slot.status {
+        SlotStatus::Free => true,
+        SlotStatus::Running => false,
+        SlotStatus::Committed => false,
+    }
+}
+
+// The slot that belongs to the job, or 32 if none does.
+pub fn find(slots: &[Slot; 32], job: u32) -> usize
+    ensures { λ r. ⌜ r ≡ slot-of job (now (slots .entry)) ⌝ }
+{
+    for k in 0..32 {
+        if belongs(&slots[k], job) {
+            return k;
+        }
+    }
+    32
+}
+
+// The first free slot, or 32 if all are taken.
+pub fn find_free(slots: &[Slot; 32]) -> usize
+    ensures { λ r. ⌜ r ≡ first free (now (slots .entry)) ⌝ }
+{
+    for k in 0..32 {
+        if is_free(&slots[k]) {
+            return k;
+        }
+    }
+    32
+}
+
+// Gives a slot to a job.
+pub fn settle(slot: &mut Slot, job: u32)
+    ensures { λ _. ⌜ now (slot .exit) ≡ record { job = job; status = Running } ⌝ }
+{
+    slot.job = job;
+    slot.status = SlotStatus::Running;
+}
