@@ -1,5 +1,7 @@
 pub mod Counting
 pub mod JobSlots
 pub mod Opens
+pub mod Removes
 pub mod Sounds
 pub mod States
+pub mod Swept

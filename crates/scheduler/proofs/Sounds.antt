@@ -10,10 +10,12 @@ use lib.ListN.{length, getD}
 use Rattle.std.proofs.shelf.Tests.{cases-bool, cases-eq, cases-lt, eqb-true, eq-eqb, ne-eqb, and-parts, both-ways, true≢false}
 use Rattle.std.proofs.shelf.Lists.{getD-past}
 use Rattle.graph.specs.Nodes.{has}
+use Rattle.graph.proofs.Words.{bit-none}
 use Rattle.scheduler.specs.declared.slots.Slot.{Slot}
 use Rattle.scheduler.specs.declared.tables.Tables.{Tables}
 use Rattle.scheduler.specs.Slots.{taken, belongs, free-slot, slot, slot-of}
-use Rattle.scheduler.specs.Reading.{item, row, Taken, Sound}
+use Rattle.scheduler.specs.Reading.{idle, item, row, Taken, Sound}
+use Rattle.scheduler.specs.Marks.{RowWithout, SetWithout, ItemWithout, ItemLetGo}
 use Rattle.scheduler.proofs.JobSlots.{first-within, first-passes, first-only}
 
 -- a test that would make another true is false
@@ -35,10 +37,25 @@ taken-belongs s e = ap (λ b. b && eqb (s .job) (s .job)) e ∙ eq-eqb (s .job) 
 pub free-belongs : (j : ℕ) (s : Slot) → taken (s .status) ≡ false → belongs j s ≡ false
 free-belongs j s e = ap (λ b. b && eqb (s .job) j) e
 
-module _ (t : Tables) (sound : Sound t) where
-  ss : List Slot
-  ss = t .jobs .slots
+-- nothing is taken out of what is empty
 
+pub and-false : (b : Bool) → (b && false) ≡ false
+and-false true = refl
+and-false false = refl
+
+pub set-without-none : (k : ℕ) → SetWithout k 0 0
+set-without-none k a = bit-none a ∙ sym (ap (λ b. not (eqb a k) && b) (bit-none a) ∙ and-false (not (eqb a k)))
+
+pub row-without-none : (k b : ℕ) → RowWithout k b 0 0
+row-without-none k b a = bit-none a ∙ sym (ap (λ c. not (eqb b k) && c) (sym (set-without-none k a) ∙ bit-none a) ∙ and-false (not (eqb b k)))
+
+pub item-without-idle : (j k : ℕ) → ℕ → ItemWithout j k idle idle
+item-without-idle j k x = (refl, set-without-none k, set-without-none k)
+
+pub item-let-go-idle : (j : ℕ) → ℕ → ItemLetGo j idle idle
+item-let-go-idle j x = (refl, refl, refl)
+
+module _ (t : Tables) (sound : Sound t) where
   pub taken-within : (k : ℕ) → Taken (t .jobs .slots) k → k < 32
   taken-within k h = elim (cases-lt k 32) [
       inl l ↦ l

@@ -4,6 +4,8 @@
 // slots    the slots of the job table
 // tables   the job table, the item states and the next number
 // opening  opening a job
+// sweeps   taking a job out of edges and items
 mod opening;
+mod sweeps;
 pub mod slots;
 pub mod tables;
