@@ -1,4 +1,5 @@
 pub mod Counting
+pub mod Ends
 pub mod JobSlots
 pub mod Opens
 pub mod Removes

@@ -5,13 +5,15 @@ use mathlib.Core.Bool.{true}
 use mathlib.Core.List.{List}
 use Prim.Native.Nat.{ℕ, _<_, _≤_}
 use lib.ListN.{length, getD}
-use Rattle.std.specs.declared.option.Option.the-variants.{None}
+use Rattle.std.specs.declared.option.Option.the-variants.{Some, None}
 use Rattle.graph.specs.Nodes.{has}
-use Rattle.history.specs.Machine.{State}
+use Rattle.history.specs.declared.refusal.Refusal.{Refusal}
+use Rattle.history.specs.Machine.{State, not-running}
 use Rattle.scheduler.specs.declared.tables.ItemState.{ItemState}
 use Rattle.scheduler.specs.declared.tables.JobTable.{JobTable}
 use Rattle.scheduler.specs.declared.tables.Tables.{Tables}
 use Rattle.scheduler.specs.declared.slots.Slot.{Slot}
+use Rattle.scheduler.specs.declared.slots.SlotStatus.the-variants.{Running}
 use Rattle.scheduler.specs.Slots.{status-of, taken, belongs, slot, slot-of}
 
 -- an item that no job has touched
@@ -66,3 +68,11 @@ Marked t =
 -- what holds of the tables between calls
 abbrev pub Sound : Tables → Type 0
 Sound t = Sized t × Numbered t × Marked t
+
+-- slot k is that of the running job j
+abbrev pub RunsAt : Tables → ℕ → ℕ → Type 0
+RunsAt t j k = (k ≡ slot-of j (t .jobs .slots)) × (k < 32) × (slot (t .jobs .slots) k .status ≡ Running)
+
+-- job j does not run, and a call for it is refused so
+abbrev pub Stopped : Tables → ℕ → Refusal → Type 0
+Stopped t j r = not-running (status-of (slot (t .jobs .slots) (slot-of j (t .jobs .slots)) .status)) ≡ Some r

@@ -4,7 +4,9 @@
 // slots    the slots of the job table
 // tables   the job table, the item states and the next number
 // opening  opening a job
+// ending   committing and aborting a job
 // sweeps   taking a job out of edges and items
+mod ending;
 mod opening;
 mod sweeps;
 pub mod slots;

@@ -1,6 +1,6 @@
 // The slots of the job table, and how a job's is found.
 ghost use mathlib.Core.Path.{_≡_};
-ghost use Rattle.scheduler.specs.declared.slots.SlotStatus.the-variants.{Running};
+ghost use Rattle.scheduler.specs.declared.slots.SlotStatus.the-variants.{Free, Running, Committed};
 ghost use Rattle.scheduler.specs.Slots.{slot-of, first, is-free as free, belongs as taken-by};
 
 // What a slot says of its job.
@@ -70,4 +70,18 @@ pub fn settle(slot: &mut Slot, job: u32)
 {
     slot.job = job;
     slot.status = SlotStatus::Running;
+}
+
+// Takes a slot from its job.
+pub fn vacate(slot: &mut Slot)
+    ensures { λ _. ⌜ now (slot .exit) ≡ record { job = now (slot .entry) .job; status = Free } ⌝ }
+{
+    slot.status = SlotStatus::Free;
+}
+
+// Notes that the slot's job has committed.
+pub fn close(slot: &mut Slot)
+    ensures { λ _. ⌜ now (slot .exit) ≡ record { job = now (slot .entry) .job; status = Committed } ⌝ }
+{
+    slot.status = SlotStatus::Committed;
 }
