@@ -1,1 +1,7 @@
+pub mod Edges
+pub mod Lists
+pub mod Nodes
+pub mod Outcomes
 pub mod Paths
+pub mod Rows
+pub mod Search
