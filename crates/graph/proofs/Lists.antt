@@ -72,6 +72,6 @@ distinct-few zero [] d b = omega arith
 distinct-few zero (x ∷ xs) d b = absurd (omega (arith, b x (inl refl)))
 distinct-few (suc n) xs d b =
     let below : (a : ℕ) → a ∈ strike n xs → a < n = λ a i.
-        let h = b a (in-strike n a xs i) in
-        let ne : a ≡ n → ⊥ = λ e. strike-gone n xs d (subst (λ y. y ∈ strike n xs) e i) in omega arith in
+    let h = b a (in-strike n a xs i) in
+    let ne : a ≡ n → ⊥ = λ e. strike-gone n xs d (subst (λ y. y ∈ strike n xs) e i) in omega arith in
     omega (arith, strike-length n xs, distinct-few n (strike n xs) (strike-distinct n xs d) below)

@@ -30,16 +30,16 @@ written-before xs count k a l m =
     let inside : k < length xs = omega arith in
     let split : count ≡ k + 1 + (count - (k + 1)) = omega arith in
     let cut : (zs : List ℕ) → drop (k + 1) (take count zs) ≡ take (count - (k + 1)) (drop (k + 1) zs) =
-        λ zs. ap (λ c. drop (k + 1) (take c zs)) split ∙ drop-take (k + 1) (count - (k + 1)) zs in
+    λ zs. ap (λ c. drop (k + 1) (take c zs)) split ∙ drop-take (k + 1) (count - (k + 1)) zs in
     let lower : k < k + 1 = omega arith in
     let rest : drop (k + 1) (take count ys) ≡ drop (k + 1) (take count xs) =
-        cut ys ∙ ap (take (count - (k + 1))) (drop-set-lt (k + 1) xs k a lower) ∙ sym (cut xs) in
+    cut ys ∙ ap (take (count - (k + 1))) (drop-set-lt (k + 1) xs k a lower) ∙ sym (cut xs) in
     let here : getD (take count ys) k 0 ≡ a = getD-take count ys k 0 l ∙ getD-set-same xs k a 0 inside in
     drop-more (take count ys) k 0 short ∙ ap₂ _∷_ here rest
 
 pub way-turn : (from xs : List ℕ) (count k at : ℕ) → 0 < k → k ≤ count → count ≤ length xs
     → wayBefore from (k - 1) (getD from at 0) (drop (k - 1) (take count (set xs (k - 1) at)))
-        ≡ wayBefore from k at (drop k (take count xs))
+    ≡ wayBefore from k at (drop k (take count xs))
 way-turn from xs count k at p l m =
     let e : k ≡ suc (k - 1) = omega arith in
     let f : k ≡ k - 1 + 1 = omega arith in
@@ -95,16 +95,21 @@ module _ (E : Relation) (size start goal : ℕ) (few : size ≤ 64) where
         came = λ n i. inl (only n i, depth n);
         low = λ n. omega (arith, ap (λ xs. getD xs n 0) (s .from), zeros 64 n);
         shallow = λ n i. omega (arith, depth n);
-        short-of = λ n i _. only n i }
+        short-of = λ n i _. only n i;
+      }
 
   -- there is room for a node that was not found before
   pub room : (f : Found) (to : ℕ) → Reached E size start goal f → to < size → has (f .seen) to ≡ false → f .count < 64
   room f to r l u =
       let fresh : to ∈ foundNodes f → ⊥ = λ i. both-ways (has (f .seen) to) u (r .marked to i) in
       let below : (n : ℕ) → n ∈ (foundNodes f ++ to ∷ []) → n < size =
-          λ n i. ⊎-elim (r .inside n) (λ e. rw e l) (in-push n (foundNodes f) to i) in
-      omega (arith, distinct-few size (foundNodes f ++ to ∷ []) (distinct-push (foundNodes f) to (r .distinct) fresh) below,
-        length-push (foundNodes f) to, length-take-le (f .count) (f .order) (omega arith))
+      λ n i. ⊎-elim (r .inside n) (λ e. rw e l) (in-push n (foundNodes f) to i) in
+      omega (
+        arith,
+        distinct-few size (foundNodes f ++ to ∷ []) (distinct-push (foundNodes f) to (r .distinct) fresh) below,
+        length-push (foundNodes f) to,
+        length-take-le (f .count) (f .order) (omega arith),
+      )
 
   module _ (f g : Found) (at to : ℕ) (r : Reached E size start goal f) (i : at ∈ foundNodes f) (l : to < size)
       (u : has (f .seen) to ≡ false) (a : Adds f at to g) where
@@ -140,32 +145,37 @@ module _ (E : Relation) (size start goal : ℕ) (few : size ≤ 64) where
 
     came-before : (n : ℕ) → n ∈ foundNodes f → Came E start g n
     came-before n h = elim (r .came n h) [
-        inl c ↦ inl (c .0, depth-before n h ∙ c .1)
-      | inr c ↦ rw (from-before n h, depth-before n h) (inr (found-before _ (c .0), c .1, c .2 ∙ ap (λ d. d + 1) (sym (depth-before _ (c .0))))) ]
+      | inl c ↦ inl (c .0, depth-before n h ∙ c .1)
+      | inr c ↦ rw (from-before n h, depth-before n h) (inr (found-before _ (c .0), c .1, c .2 ∙ ap (λ d. d + 1) (sym (depth-before _ (c .0)))))
+    ]
 
     came-last : E at to → Came E start g to
     came-last e = rw (from-last, depth-last) (inr (found-before at i, e, ap (λ d. d + 1) (sym (depth-before at i))))
 
     from-low : (n : ℕ) → getD (g .from) n 0 < 64
     from-low n = elim (cases-eq n to) [
-        inl e ↦ rw e (omega (arith, from-last, r .inside at i))
-      | inr d ↦ omega (arith, ap (λ xs. getD xs n 0) (a .from), getD-set-other (f .from) to n at 0 d, r .low n) ]
+      | inl e ↦ rw e (omega (arith, from-last, r .inside at i))
+      | inr d ↦ omega (arith, ap (λ xs. getD xs n 0) (a .from), getD-set-other (f .from) to n at 0 d, r .low n)
+    ]
 
     pub reached-more : E at to → (to ≡ goal → ⊥) → Reached E size start goal g
     reached-more e ne = record {
-        places = (ap length (a .order) ∙ length-set (f .order) _ _ ∙ r .places .0,
-          ap length (a .from) ∙ length-set (f .from) _ _ ∙ r .places .1,
-          ap length (a .depth) ∙ length-set (f .depth) _ _ ∙ r .places .2);
-        counted = (omega arith, omega (arith, room f to r l u));
-        distinct = rw one-more (distinct-push (foundNodes f) to (r .distinct) fresh);
-        inside = λ n h. ⊎-elim (r .inside n) (λ p. rw p l) (found-cases n h);
-        begun = found-before start (r .begun);
-        marked = λ n h. a .seen n ∙ ⊎-elim (λ o. or-left _ _ (r .marked n o)) (λ p. or-right _ _ (eq-eqb n to p)) (found-cases n h);
-        unmarked = λ n t. ⊎-elim (λ o. found-before n (r .unmarked n o)) (λ o. rw (eqb-true n to o) found-last) (or-cases _ _ (sym (a .seen n) ∙ t));
-        came = λ n h. ⊎-elim (came-before n) (λ p. rw p (came-last e)) (found-cases n h);
-        low = from-low;
-        shallow = λ n h. ⊎-elim (λ o. omega (arith, r .shallow n o, depth-before n o)) (λ p. rw p (omega (arith, depth-last, r .shallow at i))) (found-cases n h);
-        short-of = λ n h p. ⊎-elim (λ o. r .short-of n o p) (λ o. absurd (ne (sym o ∙ p))) (found-cases n h) }
+      places = (
+        ap length (a .order) ∙ length-set (f .order) _ _ ∙ r .places .0,
+        ap length (a .from) ∙ length-set (f .from) _ _ ∙ r .places .1,
+        ap length (a .depth) ∙ length-set (f .depth) _ _ ∙ r .places .2,
+      );
+      counted = (omega arith, omega (arith, room f to r l u));
+      distinct = rw one-more (distinct-push (foundNodes f) to (r .distinct) fresh);
+      inside = λ n h. ⊎-elim (r .inside n) (λ p. rw p l) (found-cases n h);
+      begun = found-before start (r .begun);
+      marked = λ n h. a .seen n ∙ ⊎-elim (λ o. or-left _ _ (r .marked n o)) (λ p. or-right _ _ (eq-eqb n to p)) (found-cases n h);
+      unmarked = λ n t. ⊎-elim (λ o. found-before n (r .unmarked n o)) (λ o. rw (eqb-true n to o) found-last) (or-cases _ _ (sym (a .seen n) ∙ t));
+      came = λ n h. ⊎-elim (came-before n) (λ p. rw p (came-last e)) (found-cases n h);
+      low = from-low;
+      shallow = λ n h. ⊎-elim (λ o. omega (arith, r .shallow n o, depth-before n o)) (λ p. rw p (omega (arith, depth-last, r .shallow at i))) (found-cases n h);
+      short-of = λ n h p. ⊎-elim (λ o. r .short-of n o p) (λ o. absurd (ne (sym o ∙ p))) (found-cases n h);
+    }
 
   module _ (f : Found) (r : Reached E size start goal f) where
     -- a node with no way to it is the start
@@ -181,10 +191,11 @@ module _ (E : Relation) (size start goal : ℕ) (few : size ≤ 64) where
         let short : goal ∈ after → ⊥ = λ i. once (rw (first ∙ sym (r .short-of goal (later goal i .0) refl)) i) in
         (first, k, (once, u), short)
     way-good (suc d) n after h z k u later = elim (r .came n h) [
-        inl c ↦ absurd (omega arith)
+      | inl c ↦ absurd (omega arith)
       | inr c ↦ way-good d (getD (f .from) n 0) (n ∷ after) (c .0) (omega arith) (c .1, k)
           ((λ i. omega (arith, later n i .1)), u)
-          (λ x i. ⊎-elim (λ e. rw e (h, omega arith)) (λ j. (later x j .0, omega (arith, later x j .1))) i) ]
+          (λ x i. ⊎-elim (λ e. rw e (h, omega arith)) (λ j. (later x j .0, omega (arith, later x j .1))) i)
+    ]
 
     pub way-shown : (at : ℕ) → at ∈ foundNodes f → E at goal
         → ShowsPath E start goal (wayBefore (f .from) (getD (f .depth) at 0 + 1) at [])
@@ -227,14 +238,20 @@ place-in-front (x ∷ xs) (suc count) a (inr h) =
 module _ (E : Relation) (size start goal : ℕ) (few : size ≤ 64) where
   pub searched-none : (f : Found) → start < size → Starts start f → Searched E size start goal f 0
   searched-none f l s = record {
-      reached = reached-start E size start goal few f l s;
-      upto = omega arith;
-      done = λ k b. absurd (omega arith) }
+    reached = reached-start E size start goal few f l s;
+    upto = omega arith;
+    done = λ k b. absurd (omega arith);
+  }
 
   pub searching-none : (f : Found) (head : ℕ) → Searched E size start goal f head → head < f .count
       → Searching E size start goal f head (getD (f .order) head 0) 0
   searching-none f head s l = record {
-      reached = s .reached; upto = l; here = refl; done = s .done; begun = λ j e. absurd (omega (arith, e .0)) }
+    reached = s .reached;
+    upto = l;
+    here = refl;
+    done = s .done;
+    begun = λ j e. absurd (omega (arith, e .0));
+  }
 
   module _ (f : Found) (head at to : ℕ) (s : Searching E size start goal f head at to) where
     pub at-found : at ∈ foundNodes f
@@ -244,18 +261,28 @@ module _ (E : Relation) (size start goal : ℕ) (few : size ≤ 64) where
     -- one more node to which no edge leads
     pub searching-skip : (E at to → ⊥) → Searching E size start goal f head at (to + 1)
     searching-skip ne = record {
-        reached = s .reached; upto = s .upto; here = s .here; done = s .done;
-        begun = λ j e. elim (cases-eq j to) [
-            inl p ↦ absurd (ne (subst (E at) p (e .1)))
-          | inr d ↦ s .begun j (omega (arith, e .0), e .1) ] }
+      reached = s .reached;
+      upto = s .upto;
+      here = s .here;
+      done = s .done;
+      begun = λ j e. elim (cases-eq j to) [
+        | inl p ↦ absurd (ne (subst (E at) p (e .1)))
+        | inr d ↦ s .begun j (omega (arith, e .0), e .1)
+      ];
+    }
 
     -- one more node, found before
     pub searching-old : (to ≡ goal → ⊥) → has (f .seen) to ≡ true → Searching E size start goal f head at (to + 1)
     searching-old ne t = record {
-        reached = s .reached; upto = s .upto; here = s .here; done = s .done;
-        begun = λ j e. elim (cases-eq j to) [
-            inl p ↦ rw p (s .reached .unmarked to t, ne)
-          | inr d ↦ s .begun j (omega (arith, e .0), e .1) ] }
+      reached = s .reached;
+      upto = s .upto;
+      here = s .here;
+      done = s .done;
+      begun = λ j e. elim (cases-eq j to) [
+        | inl p ↦ rw p (s .reached .unmarked to t, ne)
+        | inr d ↦ s .begun j (omega (arith, e .0), e .1)
+      ];
+    }
 
     -- one more node, found now
     pub searching-new : (g : Found) → E at to → to < size → (to ≡ goal → ⊥) → has (f .seen) to ≡ false → Adds f at to g
@@ -263,39 +290,45 @@ module _ (E : Relation) (size start goal : ℕ) (few : size ≤ 64) where
     searching-new g e l ne u a =
         let r = s .reached in
         let grown : (n : ℕ) → n ∈ foundNodes f → n ∈ foundNodes g =
-            found-before E size start goal few f g at to r at-found l u a in
+        found-before E size start goal few f g at to r at-found l u a in
         let same : (k : ℕ) → k < f .count → getD (g .order) k 0 ≡ getD (f .order) k 0 =
-            λ k b. ap (λ xs. getD xs k 0) (a .order) ∙ getD-set-other (f .order) (f .count) k to 0 (omega arith) in
+        λ k b. ap (λ xs. getD xs k 0) (a .order) ∙ getD-set-other (f .order) (f .count) k to 0 (omega arith) in
         record {
           reached = reached-more E size start goal few f g at to r at-found l u a e ne;
           upto = omega (arith, s .upto, a .count);
           here = same head (s .upto) ∙ s .here;
           done = λ k b j d. let h = s .done k b j (subst (λ n. E n j) (same k (omega (arith, s .upto))) d) in (grown j (h .0), h .1);
           begun = λ j d. elim (cases-eq j to) [
-              inl p ↦ rw p (found-last E size start goal few f g at to r at-found l u a, ne)
-            | inr o ↦ let h = s .begun j (omega (arith, d .0), d .1) in (grown j (h .0), h .1) ] }
+            | inl p ↦ rw p (found-last E size start goal few f g at to r at-found l u a, ne)
+            | inr o ↦ let h = s .begun j (omega (arith, d .0), d .1) in (grown j (h .0), h .1)
+          ];
+        }
 
     -- one more node to which an edge leads
     pub searching-noted : (g : Found) → E at to → to < size → (to ≡ goal → ⊥) → (has (f .seen) to ≡ true → g ≡ f)
         → (has (f .seen) to ≡ false → Adds f at to g) → Searching E size start goal g head at (to + 1)
     searching-noted g e l ne old new = elim (cases-bool (has (f .seen) to)) [
-        inl t ↦ rw (old t) (searching-old ne t)
-      | inr u ↦ searching-new g e l ne u (new u) ]
+      | inl t ↦ rw (old t) (searching-old ne t)
+      | inr u ↦ searching-new g e l ne u (new u)
+    ]
 
     -- all edges of one more node have been followed
     pub searched-more : ((j : ℕ) → E at j → j < to) → Searched E size start goal f (head + 1)
     searched-more all = record {
-        reached = s .reached; upto = omega (arith, s .upto);
-        done = λ k b j e. elim (cases-eq k head) [
-            inl p ↦ let d = subst (λ n. E n j) (ap (λ m. getD (f .order) m 0) p ∙ s .here) e in s .begun j (all j d, d)
-          | inr o ↦ s .done k (omega arith) j e ] }
+      reached = s .reached;
+      upto = omega (arith, s .upto);
+      done = λ k b j e. elim (cases-eq k head) [
+        | inl p ↦ let d = subst (λ n. E n j) (ap (λ m. getD (f .order) m 0) p ∙ s .here) e in s .begun j (all j d, d)
+        | inr o ↦ s .done k (omega arith) j e
+      ];
+    }
 
   -- where the edges of all nodes found have been followed, no path leads to the goal
   pub searched-all : (f : Found) (head : ℕ) → Searched E size start goal f head → f .count ≤ head → Path E start goal → ⊥
   searched-all f head s l =
       no-way-out (λ n. n ∈ foundNodes f) goal
       (λ i j h e. let p = place-in-front (f .order) (f .count) i h in
-          s .done (p .0) (omega (arith, p .1)) j (subst (λ n. E n j) (sym (p .2)) e))
+      s .done (p .0) (omega (arith, p .1)) j (subst (λ n. E n j) (sym (p .2)) e))
       (s .reached .begun)
 
 -- how a search ends: on a node from which an edge leads to the goal, or with no path to it

@@ -10,3 +10,8 @@ use Rattle.graph.specs.declared.list.NodeList.{NodeList}
 abbrev pub Finds : Relation → ℕ → ℕ → Option NodeList → Type 0
 Finds E start goal None = Path E start goal → ⊥
 Finds E start goal (Some l) = Path E start goal × ShowsPath E start goal (listed l) × (l .count ≤ 64)
+
+-- there is a cycle and the nodes of one are answered, or there is none and none is answered
+abbrev pub FindsCycle : Relation → Option NodeList → Type 0
+FindsCycle E None = Cycle E → ⊥
+FindsCycle E (Some l) = Cycle E × ShowsCycle E (listed l) × (l .count ≤ 64)

@@ -4,7 +4,9 @@
 // graph    what a graph is, and graphs as rows of marks
 // list     lists of nodes
 // path     path search
+pub mod cycle;
 pub mod graph;
 pub mod list;
 pub mod nodes;
+pub mod order;
 pub mod path;

@@ -44,14 +44,16 @@ loop-to-again g c =
     let s = c .loop-to .inv .0 in
     let at = getD (c .search .found .order) (c .search .head) 0 in
     let inside = s .reached .inside at (at-found _ _ _ _ few _ _ _ _ s) in
-    let below : c .loop-to .to < g .G·Graph .size graph = omega arith in
-    (elim (c .if-leads .came) [
-        then-leads·else-to-goal w ↦
-          rw (w .found-is) (searching-noted _ _ _ _ few _ _ _ _ s _ (inside, below, subst T (w .if-leads .ensures tt) tt) below (w .if-to-goal .left)
+    let below : c .loop-to .to < g .G·Graph .size graph = omega arith in (
+      elim (c .if-leads .came) [
+        | then-leads·else-to-goal w ↦
+            rw (w .found-is) (searching-noted _ _ _ _ few _ _ _ _ s _ (inside, below, subst T (w .if-leads .ensures tt) tt) below (w .if-to-goal .left)
             (w .note .ensures .found) (w .note .ensures .fresh))
-      | else-leads w ↦
-          rw (w .found-is) (searching-skip _ _ _ _ few _ _ _ _ s (λ e. subst T (sym (w .if-leads .ensures tt)) (e .2))) ],
-     c .loop-to .inv .1)
+        | else-leads w ↦
+            rw (w .found-is) (searching-skip _ _ _ _ few _ _ _ _ s (λ e. subst T (sym (w .if-leads .ensures tt)) (e .2)))
+      ],
+      c .loop-to .inv .1,
+    )
 
 pub search-again : need.search-again
 search-again g c =
@@ -62,13 +64,14 @@ way-to-requires g c κs =
     let graph = c .args .graph .now in
     let few = g .G·Graph .few graph in
     let e : Ended (Edges (g .G·Graph .size graph) (g .G·Graph .leads graph)) (g .G·Graph .size graph) (c .args .start) (c .args .goal) (c .search-test .found) (c .search-test .last) =
-        elim (c .search-test .came) [
-            else-search-test w ↦ rw (w .found-is) (ended-all _ _ _ _ few _ _ _ (c .search .inv .0) (w .search-test .left) (w .last-is ∙ c .search .inv .1))
-          | then-search-test·then-loop-to-test·then-leads·then-to-goal w ↦
-              let s = w .loop-to .inv .0 in
-              let inside = s .reached .inside _ (at-found _ _ _ _ few _ _ _ _ s) in
-              let below : w .loop-to .to < g .G·Graph .size graph = omega arith in
-              rw (w .found-is) (ended-found _ _ _ _ few _ _ _ _ _ s (inside, below, subst T (w .if-leads .ensures tt) tt) (w .if-to-goal .taken) (w .last-is)) ] in
+    elim (c .search-test .came) [
+      | else-search-test w ↦ rw (w .found-is) (ended-all _ _ _ _ few _ _ _ (c .search .inv .0) (w .search-test .left) (w .last-is ∙ c .search .inv .1))
+      | then-search-test·then-loop-to-test·then-leads·then-to-goal w ↦
+          let s = w .loop-to .inv .0 in
+          let inside = s .reached .inside _ (at-found _ _ _ _ few _ _ _ _ s) in
+          let below : w .loop-to .to < g .G·Graph .size graph = omega arith in
+          rw (w .found-is) (ended-found _ _ _ _ few _ _ _ _ _ s (inside, below, subst T (w .if-leads .ensures tt) tt) (w .if-to-goal .taken) (w .last-is))
+    ] in
     let r = ended-at _ _ _ _ _ _ _ e (c .in-Some .is) in
     (omega (arith, r .0 .inside _ (r .1)), omega (arith, r .0 .shallow _ (r .1), r .0 .counted), r .0 .low)
 
@@ -77,13 +80,14 @@ returns-in-Some g c =
     let graph = c .args .graph .now in
     let few = g .G·Graph .few graph in
     let e : Ended (Edges (g .G·Graph .size graph) (g .G·Graph .leads graph)) (g .G·Graph .size graph) (c .args .start) (c .args .goal) (c .search-test .found) (c .search-test .last) =
-        elim (c .search-test .came) [
-            else-search-test w ↦ rw (w .found-is) (ended-all _ _ _ _ few _ _ _ (c .search .inv .0) (w .search-test .left) (w .last-is ∙ c .search .inv .1))
-          | then-search-test·then-loop-to-test·then-leads·then-to-goal w ↦
-              let s = w .loop-to .inv .0 in
-              let inside = s .reached .inside _ (at-found _ _ _ _ few _ _ _ _ s) in
-              let below : w .loop-to .to < g .G·Graph .size graph = omega arith in
-              rw (w .found-is) (ended-found _ _ _ _ few _ _ _ _ _ s (inside, below, subst T (w .if-leads .ensures tt) tt) (w .if-to-goal .taken) (w .last-is)) ] in
+    elim (c .search-test .came) [
+      | else-search-test w ↦ rw (w .found-is) (ended-all _ _ _ _ few _ _ _ (c .search .inv .0) (w .search-test .left) (w .last-is ∙ c .search .inv .1))
+      | then-search-test·then-loop-to-test·then-leads·then-to-goal w ↦
+          let s = w .loop-to .inv .0 in
+          let inside = s .reached .inside _ (at-found _ _ _ _ few _ _ _ _ s) in
+          let below : w .loop-to .to < g .G·Graph .size graph = omega arith in
+          rw (w .found-is) (ended-found _ _ _ _ few _ _ _ _ _ s (inside, below, subst T (w .if-leads .ensures tt) tt) (w .if-to-goal .taken) (w .last-is))
+    ] in
     let r = ended-at _ _ _ _ _ _ _ e (c .in-Some .is) in
     let shown = way-shown _ _ _ _ few _ (r .0) _ (r .1) (r .2) in
     (shows-finds _ _ _ _ shown, rw (c .way-to .ensures .way) shown, c .way-to .ensures .count)
@@ -93,11 +97,12 @@ returns-in-None g c =
     let graph = c .args .graph .now in
     let few = g .G·Graph .few graph in
     let e : Ended (Edges (g .G·Graph .size graph) (g .G·Graph .leads graph)) (g .G·Graph .size graph) (c .args .start) (c .args .goal) (c .search-test .found) (c .search-test .last) =
-        elim (c .search-test .came) [
-            else-search-test w ↦ rw (w .found-is) (ended-all _ _ _ _ few _ _ _ (c .search .inv .0) (w .search-test .left) (w .last-is ∙ c .search .inv .1))
-          | then-search-test·then-loop-to-test·then-leads·then-to-goal w ↦
-              let s = w .loop-to .inv .0 in
-              let inside = s .reached .inside _ (at-found _ _ _ _ few _ _ _ _ s) in
-              let below : w .loop-to .to < g .G·Graph .size graph = omega arith in
-              rw (w .found-is) (ended-found _ _ _ _ few _ _ _ _ _ s (inside, below, subst T (w .if-leads .ensures tt) tt) (w .if-to-goal .taken) (w .last-is)) ] in
+    elim (c .search-test .came) [
+      | else-search-test w ↦ rw (w .found-is) (ended-all _ _ _ _ few _ _ _ (c .search .inv .0) (w .search-test .left) (w .last-is ∙ c .search .inv .1))
+      | then-search-test·then-loop-to-test·then-leads·then-to-goal w ↦
+          let s = w .loop-to .inv .0 in
+          let inside = s .reached .inside _ (at-found _ _ _ _ few _ _ _ _ s) in
+          let below : w .loop-to .to < g .G·Graph .size graph = omega arith in
+          rw (w .found-is) (ended-found _ _ _ _ few _ _ _ _ _ s (inside, below, subst T (w .if-leads .ensures tt) tt) (w .if-to-goal .taken) (w .last-is))
+    ] in
     ended-none _ _ _ _ _ _ e (c .in-None .is)

@@ -6,5 +6,9 @@ use Rattle.graph.proofs.path.Found.start.Needs as need
 
 pub returns : need.returns
 returns c = record {
-    order = refl; count = refl; from = refl; depth = refl;
-    seen = λ k. c .with .ensures k ∙ simp (bit-none, lt-ltb (c .args .start) 64 (c .pre), and-true) }
+  order = refl;
+  count = refl;
+  from = refl;
+  depth = refl;
+  seen = λ k. c .with .ensures k ∙ simp (bit-none, lt-ltb (c .args .start) 64 (c .pre), and-true);
+}

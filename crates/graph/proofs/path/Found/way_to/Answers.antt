@@ -11,7 +11,10 @@ loop-left-holds c =
     (omega arith, c .pre .0, refl, way-none (c .args .self .now .from) (replicate 64 0) (getD (c .args .self .now .depth) (c .args .node) 0 + 1) (c .args .node))
 
 pub loop-left-again : need.loop-left-again
-loop-left-again c =
-    (omega arith, c .pre .2 (c .loop-left .at), length-set (c .loop-left .nodes) _ _ ∙ c .loop-left .inv .2,
-     way-turn (c .args .self .now .from) (c .loop-left .nodes) _ (c .loop-left .left) (c .loop-left .at) (omega arith) (c .loop-left .inv .0) (omega arith)
-     ∙ c .loop-left .inv .3)
+loop-left-again c = (
+  omega arith,
+  c .pre .2 (c .loop-left .at),
+  length-set (c .loop-left .nodes) _ _ ∙ c .loop-left .inv .2,
+  way-turn (c .args .self .now .from) (c .loop-left .nodes) _ (c .loop-left .left) (c .loop-left .at) (omega arith) (c .loop-left .inv .0) (omega arith)
+      ∙ c .loop-left .inv .3,
+)

@@ -9,7 +9,7 @@ abbrev pub Inv-loop-left : given.InvT-loop-left
 Inv-loop-left l =
     (l .left ≤ l .count) × (l .at < 64) × (length (l .nodes) ≡ 64)
     × (wayBefore (l .self .from) (l .left) (l .at) (drop (l .left) (take (l .count) (l .nodes)))
-        ≡ wayBefore (l .self .from) (l .count) (l .node) [])
+    ≡ wayBefore (l .self .from) (l .count) (l .node) [])
 
 abbrev pub μ-loop-left : given.MeasureT-loop-left
 μ-loop-left l = l .left
