@@ -1,3 +1,5 @@
 pub mod Lists
 pub mod Paths
 pub mod Replay
+pub mod Records
+pub mod Marks

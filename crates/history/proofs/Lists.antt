@@ -38,7 +38,7 @@ pub ∈-split : (a : ℕ) (xs ys : List ℕ) → a ∈ (xs ++ ys) → (a ∈ xs)
     elim (∈-split a xs ys h) [ inl k ↦ inl (inr k) | inr k ↦ inr k ]
 
 -- membership as a test
-pub mem : ℕ → List ℕ → Bool
+unfoldable pub mem : ℕ → List ℕ → Bool
 mem a [] = false
 mem a (x ∷ xs) = eqb a x || mem a xs
 

@@ -83,7 +83,7 @@ pub of-job-no : (j : ℕ) (a : Access) (s : List Access) → (a .job ≡ j → �
 of-job-no j a s n = rw (ne-eqb (a .job) j n)
 
 -- the accesses of the jobs that pass a test
-pub kept : (ℕ → Bool) → List Access → List Access
+unfoldable pub kept : (ℕ → Bool) → List Access → List Access
 kept k [] = []
 kept k (a ∷ s) = cond (k (a .job)) (a ∷ kept k s) (kept k s)
 
