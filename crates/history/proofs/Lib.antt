@@ -3,3 +3,5 @@ pub mod Paths
 pub mod Replay
 pub mod Records
 pub mod Marks
+pub mod Graphs
+pub mod Values
