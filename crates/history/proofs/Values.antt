@@ -18,7 +18,7 @@ use Rattle.history.specs.declared.holding.Holding.{Holding}
 use Rattle.history.specs.Acts.{Fate}
 use Rattle.history.specs.Conflicts.{Access}
 use Rattle.history.specs.Machine.{holds, held-value, let-go, put-at, put-all, those, rising}
-use Rattle.history.proofs.Lists.{true-not-false, ∈-those, those-∈, those-yes, those-no, ∈-rising, rising-∈, distinct-rising, distinct-those}
+use Rattle.history.proofs.Lists.{true-not-false, ∈-those, those-∈, ∈-dec, ∈-rising}
 use Rattle.history.proofs.Replay.{Replay, Fits, does, kept, replay-join}
 use Rattle.history.proofs.Records.{kept-more-yes, kept-more-no}
 
@@ -116,3 +116,119 @@ module _ (opening : List ℕ) (F : ℕ → Fate) (s : List Access) (held : ℕ �
                   ∙ laid-left-out k (a .job) (held x) (getD values x 0)
                       (subst (λ (z : ℕ). FreeOr (a .job) (held z)) (sym q) f) e)
           | inr n ↦ rw (ne-eqb x (a .item) n) (l .shows x) ]
+
+-- what is put into the store
+module _ (held : ℕ → Option Holding) where
+  pub put-all-long : (xs values : List ℕ) → length (put-all held xs values) ≡ length values
+  unfolding put-all
+  put-all-long [] values = refl
+  put-all-long (x ∷ xs) values =
+      put-all-long xs (set values x (held-value (held x) 0)) ∙ length-set values x (held-value (held x) 0)
+
+  pub put-all-out : (xs values : List ℕ) (x : ℕ) → (x ∈ xs → ⊥) → getD (put-all held xs values) x 0 ≡ getD values x 0
+  unfolding put-all
+  put-all-out [] values x n = refl
+  put-all-out (y ∷ xs) values x n =
+      put-all-out xs (set values y (held-value (held y) 0)) x (λ h. n (inr h))
+        ∙ getD-set-other values y x (held-value (held y) 0) 0 (λ e. n (inl e))
+
+  pub put-all-in : (xs values : List ℕ) (x : ℕ) → x ∈ xs → x < length values
+      → getD (put-all held xs values) x 0 ≡ held-value (held x) 0
+  unfolding put-all
+  put-all-in [] values x h l = absurd h
+  put-all-in (y ∷ xs) values x h l =
+      elim (∈-dec x xs)
+      [ inl k ↦
+          put-all-in xs (set values y (held-value (held y) 0)) x k
+            (subst (λ (z : ℕ). x < z) (sym (length-set values y (held-value (held y) 0))) l)
+      | inr n ↦
+          put-all-out xs (set values y (held-value (held y) 0)) x n ∙ here h n ]
+    where
+      here : x ∈ (y ∷ xs) → (x ∈ xs → ⊥) → getD (set values y (held-value (held y) 0)) x 0 ≡ held-value (held x) 0
+      here (inl e) n =
+          subst (λ (z : ℕ). getD (set values z (held-value (held z) 0)) x 0 ≡ held-value (held x) 0) e
+            (getD-set-same values x (held-value (held x) 0) 0 l)
+      here (inr k) n = absurd (n k)
+
+pub let-go-free : (j : ℕ) (o : Option Holding) → holds j o ≡ false → let-go j o ≡ o
+let-go-free j o e = rw e
+
+pub let-go-own : (j : ℕ) (o : Option Holding) → holds j o ≡ true → let-go j o ≡ None
+let-go-own j o e = rw e
+
+-- whoever holds an item that was let go held it before, and is another
+pub let-go-some : (j : ℕ) (o : Option Holding) (h : Holding) → let-go j o ≡ Some h → (o ≡ Some h) × (h .job ≡ j → ⊥)
+let-go-some j None h e = (e, absurd (none-some e))
+  where
+    none-some : None ≡ Some h → ⊥
+    none-some q = let z : _≡_ {A = ℕ} 0 1 = cc in omega arith
+let-go-some j (Some g) h e =
+    elim (cases-bool (eqb (g .job) j))
+    [ inl q ↦
+        let f : None ≡ Some h = rw q at e in
+        let z : _≡_ {A = ℕ} 0 1 = cc in
+        absurd (omega arith)
+    | inr q ↦
+        let f : Some g ≡ Some h = rw q at e in
+        (f, λ k. eqb-false (g .job) j q ((let u : g ≡ h = cc in ap (λ (z : Holding). z .job) u) ∙ k)) ]
+
+laid-held : (k : ℕ → Bool) (j : ℕ) (o : Option Holding) (v : ℕ) → holds j o ≡ true → k j ≡ true → laid k o v ≡ held-value o 0
+laid-held k j None v h e = true-not-false false h refl
+laid-held k j (Some g) v h e = rw (ap k (eqb-true (g .job) j h) ∙ e)
+
+laid-let-go : (k : ℕ → Bool) (j : ℕ) (o : Option Holding) (v : ℕ) → k j ≡ false → laid k o v ≡ laid k (let-go j o) v
+laid-let-go k j None v e = refl
+laid-let-go k j (Some g) v e =
+    elim (cases-bool (eqb (g .job) j))
+    [ inl q ↦ rw (q, ap k (eqb-true (g .job) j q) ∙ e) | inr q ↦ rw q ]
+
+module _ (opening : List ℕ) (F G : ℕ → Fate) (s : List Access) (held : ℕ → Option Holding) (values : List ℕ) (j : ℕ)
+  (p : Plays opening F s held values) (before : (k : ℕ → Bool) → Counts k G → Counts k F) where
+  -- a commit puts what the job held into the store
+  pub plays-commit : G j ≡ Fate.committed → ((x : ℕ) → holds j (held x) ≡ true → x < min 64 (length values))
+      → Plays opening G s (λ x. let-go j (held x))
+          (put-all held (those (λ x. holds j (held x)) (rising 0 (min 64 (length values)))) values)
+  plays-commit g inside k c =
+      let r = p k (before k c) in
+      (r .0, r .1, record { long = r .2 .long ∙ sym (put-all-long held own values); shows = λ x. r .2 .shows x ∙ same x })
+    where
+      own : List ℕ
+      own = those (λ x. holds j (held x)) (rising 0 (min 64 (length values)))
+      same : (x : ℕ) → laid k (held x) (getD values x 0) ≡ laid k (let-go j (held x)) (getD (put-all held own values) x 0)
+      same x =
+          elim (cases-bool (holds j (held x)))
+          [ inl e ↦
+              let i = inside x e in
+              laid-held k j (held x) (getD values x 0) e (c .counted j g)
+                ∙ sym (put-all-in held own values x
+                    (∈-those (λ y. holds j (held y)) x (rising 0 (min 64 (length values)))
+                      (∈-rising 0 (min 64 (length values)) x (omega arith) (omega arith)) e)
+                    (omega arith))
+                ∙ ap (λ (o : Option Holding). laid k o (getD (put-all held own values) x 0)) (sym (let-go-own j (held x) e))
+          | inr e ↦
+              ap (λ (v : ℕ). laid k (held x) v)
+                  (sym (put-all-out held own values x
+                    (λ h. true-not-false (holds j (held x)) (those-∈ (λ y. holds j (held y)) x (rising 0 (min 64 (length values))) h .1) e)))
+                ∙ ap (λ (o : Option Holding). laid k o (getD (put-all held own values) x 0)) (sym (let-go-free j (held x) e)) ]
+
+  -- an abort drops what the job held
+  pub plays-abort : G j ≡ Fate.aborted → Plays opening G s (λ x. let-go j (held x)) values
+  plays-abort g k c =
+      let r = p k (before k c) in
+      ( r .0
+      , r .1
+      , record
+        { long = r .2 .long
+        ; shows = λ x. r .2 .shows x ∙ laid-let-go k j (held x) (getD values x 0) (c .left-out j g)
+        } )
+
+  -- a job that holds nothing goes
+  pub plays-retire : ((x : ℕ) → holds j (held x) ≡ false) → Plays opening G s (λ x. let-go j (held x)) values
+  plays-retire none k c =
+      let r = p k (before k c) in
+      ( r .0
+      , r .1
+      , record
+        { long = r .2 .long
+        ; shows = λ x. r .2 .shows x ∙ ap (λ (o : Option Holding). laid k o (getD values x 0)) (sym (let-go-free j (held x) (none x)))
+        } )
