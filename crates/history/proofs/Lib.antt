@@ -5,3 +5,4 @@ pub mod Records
 pub mod Marks
 pub mod Graphs
 pub mod Values
+pub mod Invariant
