@@ -20,7 +20,7 @@ use Rattle.history.proofs.Lists.{true-not-false, T-true, mem, mem-∈, ∈-mem
 use Rattle.history.proofs.Paths.{Drawn, path-sound, path-found}
 use Rattle.history.proofs.Records.{Occurs, Did, did-occurs, did-old, did-new, leads-occurs}
 use Rattle.history.proofs.Marks.{Marked, Edged, marked-same, edged-same, marked-removed, edged-removed, marked-step, marked-other, edged-step}
-use Rattle.history.proofs.Graphs.{Among, Live, Retired, running-kept, running-lives, running-not-committed, retired-weaken, retired-more, retired-step}
+use Rattle.history.proofs.Graphs.{Among, Live, Retired, running-kept, running-lives, running-not-committed, retired-weaken, retired-more, retired-step, path-from-cycle, cycle-from-path}
 use Rattle.history.proofs.Values.{Plays, Counts, FreeOr, plays-weaken, plays-read, plays-write, put-all-long, let-go-some, plays-commit, plays-abort, plays-retire}
 
 -- the status that the machine shows of a job, by what became of it and whether it is retired
@@ -141,6 +141,10 @@ put-at-same n a f m e = rw (eq-eqb m n e)
 
 put-at-other : {A : Type 0} (n : ℕ) (a : A) (f : ℕ → A) (m : ℕ) → (m ≡ n → ⊥) → put-at n a f m ≡ f m
 put-at-other n a f m d = rw (ne-eqb m n d)
+
+-- the access that a step makes
+abbrev pub step : ℕ → ℕ → ℕ → Bool → Access
+step j x val w = record { job = j; item = x; writes = w; value = val }
 
 module _ (opening : List ℕ) (F : ℕ → Fate) (s : List Access) (R : List ℕ) (st : State) (v : Inv opening F s R st) where
   -- QUESTIONS
@@ -407,3 +411,83 @@ module _ (opening : List ℕ) (F : ℕ → Fate) (s : List Access) (R : List ℕ
           go None p = refl
           go (Some g) p =
               ne-eqb (g .job) j (λ q. running-not-committed (F (g .job)) (v .holding x g p .0) (ap F q ∙ c))
+
+  -- A STEP OF A JOB THAT RUNS
+
+  module _ (j x val : ℕ) (w : Bool) (e : F j ≡ Fate.running) where
+    pub step-edges : Edged (Live F R) (s ++ step j x val w ∷ []) (drawn st j x w)
+    step-edges =
+        edged-step (Live F R) s (step j x val w) (st .edges) (st .readers) (st .writers) (runs-lives j e) (v .drawing)
+          (v .reading) (v .writing)
+
+    -- the machine's test finds the cycle that the whole record would have, and no other
+    pub cycle-found : Cycle (Among F (s ++ step j x val w ∷ [])) → closes-cycle st j x w ≡ true
+    cycle-found c =
+        path-found (drawn st j x w) (jobs st) j j
+          (λ a b d. lives-listed a (step-edges .only a b d .0))
+          (path-from-cycle F s R (step j x val w) (v .graph) e (drawn st j x w) step-edges c)
+
+    pub cycle-there : closes-cycle st j x w ≡ true → Cycle (Among F (s ++ step j x val w ∷ []))
+    cycle-there t =
+        cycle-from-path F s R (step j x val w) (v .graph) e (drawn st j x w) step-edges
+          (path-sound (drawn st j x w) (jobs st) j j t)
+
+    step-graph : closes-cycle st j x w ≡ false → Retired F (s ++ step j x val w ∷ []) R
+    step-graph t =
+        retired-step F s R (step j x val w) (v .graph) e (drawn st j x w) step-edges
+          (λ p.
+            true-not-false (closes-cycle st j x w)
+              (path-found (drawn st j x w) (jobs st) j j (λ a b d. lives-listed a (step-edges .only a b d .0)) p) t)
+
+    step-known : x < served st → Known F (served st) (s ++ step j x val w ∷ [])
+    step-known l = known-more F (served st) s (step j x val w) (λ q. running-unopened (sym e ∙ q)) l (v .known)
+
+  pub inv-read : (j x : ℕ) → F j ≡ Fate.running → x < served st → FreeOr j (st .held x)
+      → closes-cycle st j x false ≡ false → Inv opening F (s ++ step j x (seen st j x) false ∷ []) R (has-read j x st)
+  unfolding has-read
+  inv-read j x e l f t =
+      record
+      { long = v .long
+      ; fresh = v .fresh
+      ; statuses = v .statuses
+      ; known = step-known j x val false e l
+      ; reading = marked-step (Live F R) s (step j x val false) (st .readers) (runs-lives j e) (v .reading)
+      ; writing = marked-other (Live F R) s (step j x val false) true (st .writers) (λ q. true-not-false true refl (sym q)) (v .writing)
+      ; drawing = step-edges j x val false e
+      ; holding = λ y h q. let u = v .holding y h q in (u .0, did-old (step j x val false) true y (h .job) s (u .1))
+      ; graph = step-graph j x val false e t
+      ; plays = plays-read opening F s (st .held) (st .values) (v .plays) (step j x val false) refl f refl
+      }
+    where
+      val : ℕ
+      val = seen st j x
+
+  pub inv-written : (j x val : ℕ) → F j ≡ Fate.running → x < served st → FreeOr j (st .held x)
+      → closes-cycle st j x true ≡ false → Inv opening F (s ++ step j x val true ∷ []) R (has-written j x val st)
+  unfolding has-written
+  inv-written j x val e l f t =
+      record
+      { long = v .long
+      ; fresh = v .fresh
+      ; statuses = v .statuses
+      ; known = step-known j x val true e l
+      ; reading = marked-other (Live F R) s (step j x val true) false (st .readers) (λ q. true-not-false true refl q) (v .reading)
+      ; writing = marked-step (Live F R) s (step j x val true) (st .writers) (runs-lives j e) (v .writing)
+      ; drawing = step-edges j x val true e
+      ; holding = λ y h q. held-now y h q
+      ; graph = step-graph j x val true e t
+      ; plays = plays-write opening F s (st .held) (st .values) (v .plays) (step j x val true) refl (omega arith) f
+      }
+    where
+      held-now : (y : ℕ) (h : Holding) → put-at x (Some (record { job = j; value = val })) (st .held) y ≡ Some h
+          → (F (h .job) ≡ Fate.running) × Did true y (h .job) (s ++ step j x val true ∷ [])
+      held-now y h q =
+          elim (cases-eq y x)
+          [ inl k ↦
+              let u : Some (record { job = j; value = val }) ≡ Some h = sym (put-at-same x (Some (record { job = j; value = val })) (st .held) y k) ∙ q in
+              let w : record { job = j; value = val } ≡ h = cc in
+              let i : j ≡ h .job = ap (λ (z : Holding). z .job) w in
+              (ap F (sym i) ∙ e, did-new (step j x val true) true y (h .job) s i (sym k) refl)
+          | inr n ↦
+              let u = v .holding y h (sym (put-at-other x (Some (record { job = j; value = val })) (st .held) y n) ∙ q) in
+              (u .0, did-old (step j x val true) true y (h .job) s (u .1)) ]
