@@ -75,7 +75,7 @@ shown-present Fate.aborted r t e = absurd t
 kept-opened : {X : Type 0} (f : Fate) → T (not-aborted f) → f ≡ Fate.unopened → X
 kept-opened f t e = let u : T (not-aborted Fate.unopened) = rw e at t in absurd u
 
-not-mem : (j : ℕ) (R : List ℕ) → (j ∈ R → ⊥) → mem j R ≡ false
+pub not-mem : (j : ℕ) (R : List ℕ) → (j ∈ R → ⊥) → mem j R ≡ false
 not-mem j R n = elim (cases-bool (mem j R)) [ inl e ↦ absurd (n (mem-∈ j R e)) | inr e ↦ e ]
 
 mem-not : (j : ℕ) (R : List ℕ) → mem j R ≡ false → j ∈ R → ⊥

@@ -6,3 +6,5 @@ pub mod Marks
 pub mod Graphs
 pub mod Values
 pub mod Invariant
+pub mod Turns
+pub mod Serializability
