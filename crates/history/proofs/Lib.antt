@@ -8,3 +8,4 @@ pub mod Values
 pub mod Invariant
 pub mod Turns
 pub mod Serializability
+pub mod Laws
