@@ -26,14 +26,16 @@ and-digit a b = omega (arith, and-step a b)
 or-test : (x y : ℕ) → eqb (bitOr x y % 2) 1 ≡ (eqb (x % 2) 1 || eqb (y % 2) 1)
 or-test x y = rw or-digit (
     elim (digit x) [
-      inl p ↦ elim (digit y) [ inl q ↦ rw (p, q) | inr q ↦ rw (p, q) ]
-    | inr p ↦ elim (digit y) [ inl q ↦ rw (p, q) | inr q ↦ rw (p, q) ] ])
+      | inl p ↦ elim (digit y) [ inl q ↦ rw (p, q) | inr q ↦ rw (p, q) ]
+      | inr p ↦ elim (digit y) [ inl q ↦ rw (p, q) | inr q ↦ rw (p, q) ]
+    ])
 
 and-test : (x y : ℕ) → eqb (bitAnd x y % 2) 1 ≡ (eqb (x % 2) 1 && eqb (y % 2) 1)
 and-test x y = rw and-digit (
     elim (digit x) [
-      inl p ↦ elim (digit y) [ inl q ↦ rw (p, q) | inr q ↦ rw (p, q) ]
-    | inr p ↦ elim (digit y) [ inl q ↦ rw (p, q) | inr q ↦ rw (p, q) ] ])
+      | inl p ↦ elim (digit y) [ inl q ↦ rw (p, q) | inr q ↦ rw (p, q) ]
+      | inr p ↦ elim (digit y) [ inl q ↦ rw (p, q) | inr q ↦ rw (p, q) ]
+    ])
 
 -- a node is in a union if it is in one of the two
 pub bit-or : (a b k : ℕ) → has (bitOr a b) k ≡ (has a k || has b k)
@@ -94,8 +96,9 @@ bit-set w set n k l = rw (one-shl n w l, bit-or set (2 ^ n) k, bit-one n k)
 pub bit-clear : (w set n k : ℕ) → set < 2 ^ w → n < w
     → has (bitAnd set (2 ^ w - 1 - (1 * 2 ^ n) % 2 ^ w)) k ≡ (has set k && not (eqb k n))
 bit-clear w set n k s l = elim (cases-lt k w) [
-    inl b ↦ rw (one-shl n w l, bit-and set (2 ^ w - 1 - 2 ^ n) k, bit-not w (2 ^ n) k (pow-below n w l) b, bit-one n k)
-  | inr b ↦ rw (bit-and set (2 ^ w - 1 - (1 * 2 ^ n) % 2 ^ w) k, bit-past w set k s b) ]
+  | inl b ↦ rw (one-shl n w l, bit-and set (2 ^ w - 1 - 2 ^ n) k, bit-not w (2 ^ n) k (pow-below n w l) b, bit-one n k)
+  | inr b ↦ rw (bit-and set (2 ^ w - 1 - (1 * 2 ^ n) % 2 ^ w) k, bit-past w set k s b)
+]
 
 -- the test of a bit by a shift and a mask
 pub bit-mask : (set k : ℕ) → eqb (bitAnd (set / 2 ^ k) 1) 1 ≡ has set k
@@ -104,8 +107,9 @@ bit-mask set k = rw (and-mask (set / 2 ^ k) 1)
 
 same-digit : (a b : ℕ) → eqb (a % 2) 1 ≡ eqb (b % 2) 1 → a % 2 ≡ b % 2
 same-digit a b e = elim (digit a) [
-    inl p ↦ elim (digit b) [ inl q ↦ p ∙ sym q | inr q ↦ absurd (false≢true (simp (p, q) at e)) ]
-  | inr p ↦ elim (digit b) [ inl q ↦ absurd (true≢false (simp (p, q) at e)) | inr q ↦ p ∙ sym q ] ]
+  | inl p ↦ elim (digit b) [ inl q ↦ p ∙ sym q | inr q ↦ absurd (false≢true (simp (p, q) at e)) ]
+  | inr p ↦ elim (digit b) [ inl q ↦ absurd (true≢false (simp (p, q) at e)) | inr q ↦ p ∙ sym q ]
+]
 
 -- words with the same bits are equal
 pub bits-tell : (w a b : ℕ) → a < 2 ^ w → b < 2 ^ w → ((k : ℕ) → has a k ≡ has b k) → a ≡ b
@@ -113,7 +117,7 @@ unfolding has
 bits-tell zero a b s t h = omega arith
 bits-tell (suc w) a b s t h =
     let e : a / 2 ≡ b / 2 =
-        bits-tell w (a / 2) (b / 2) (omega (arith, pow-suc 2 w)) (omega (arith, pow-suc 2 w)) (λ k. sym (has-step a k) ∙ h (suc k) ∙ has-step b k) in
+    bits-tell w (a / 2) (b / 2) (omega (arith, pow-suc 2 w)) (omega (arith, pow-suc 2 w)) (λ k. sym (has-step a k) ∙ h (suc k) ∙ has-step b k) in
     let d : a % 2 ≡ b % 2 = omega (arith, same-digit (a / 1) (b / 1) (h 0)) in
     omega arith
 
@@ -124,5 +128,6 @@ and-true false = refl
 -- to take a node past the width out of a set changes nothing
 pub past-kept : (w set n : ℕ) → set < 2 ^ w → w ≤ n → (k : ℕ) → has set k ≡ (has set k && not (eqb k n))
 past-kept w set n s l k = elim (cases-eq k n) [
-    inl e ↦ rw (e, bit-past w set n s l)
-  | inr d ↦ rw (ne-eqb k n d, and-true (has set k)) ]
+  | inl e ↦ rw (e, bit-past w set n s l)
+  | inr d ↦ rw (ne-eqb k n d, and-true (has set k))
+]

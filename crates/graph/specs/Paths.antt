@@ -24,7 +24,6 @@ a ∈ (x ∷ xs) = (a ≡ x) ⊎ (a ∈ xs)
 
 infix 40 _∈_
 infixr 30 _then_
-
 -- no number stands twice in the list
 abbrev pub Distinct : List ℕ → Type 0
 Distinct [] = Unit {0}

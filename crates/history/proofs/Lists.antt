@@ -38,7 +38,7 @@ pub ∈-split : (a : ℕ) (xs ys : List ℕ) → a ∈ (xs ++ ys) → (a ∈ xs)
     elim (∈-split a xs ys h) [ inl k ↦ inl (inr k) | inr k ↦ inr k ]
 
 -- membership as a test
-pub mem : ℕ → List ℕ → Bool
+unfoldable pub mem : ℕ → List ℕ → Bool
 mem a [] = false
 mem a (x ∷ xs) = eqb a x || mem a xs
 
@@ -133,22 +133,29 @@ distinct-rising a zero = tt
 distinct-rising a (suc n) =
     ((λ h. let r = rising-∈ (suc a) n a h in omega arith), distinct-rising (suc a) n)
 
--- the first of those among rising numbers that pass a test is the smallest
-pub first-smallest : (p : ℕ → Bool) (a n j : ℕ) (js : List ℕ) → those p (rising a n) ≡ j ∷ js
-    → (i : ℕ) → i ∈ those p (rising a n) → j ≤ i
-unfolding rising those
-first-smallest p a zero j js e i h = absurd h
-first-smallest p a (suc n) j js e i h =
-    elim (cases-bool (p a))
-    [ inl q ↦
-        let f : a ∷ those p (rising (suc a) n) ≡ j ∷ js = rw q at e in
-        let g : a ≡ j = cc in
-        let r = rising-∈ a (suc n) i (those-∈ p i (rising a (suc n)) h .0) in
-        omega arith
-    | inr q ↦
-        let f : those p (rising (suc a) n) ≡ j ∷ js = rw q at e in
-        let k : i ∈ those p (rising (suc a) n) = rw q at h in
-        first-smallest p (suc a) n j js f i k ]
+-- no number of the list is followed by a smaller one
+abbrev pub Ascending : List ℕ → Type 0
+Ascending [] = Unit {0}
+Ascending (x ∷ xs) = ((y : ℕ) → y ∈ xs → x ≤ y) × Ascending xs
+
+pub ascending-rising : (a n : ℕ) → Ascending (rising a n)
+unfolding rising
+ascending-rising a zero = tt
+ascending-rising a (suc n) =
+    ((λ y h. let r = rising-∈ (suc a) n y h in omega arith), ascending-rising (suc a) n)
+
+pub ascending-those : (p : ℕ → Bool) (xs : List ℕ) → Ascending xs → Ascending (those p xs)
+unfolding those
+ascending-those p [] a = tt
+ascending-those p (x ∷ xs) a =
+    elim (cases-bool (p x))
+    [ inl e ↦ rw (those-yes p x xs e) ((λ y h. a .0 y (those-∈ p y xs h .0)), ascending-those p xs (a .1))
+    | inr e ↦ rw (those-no p x xs e) (ascending-those p xs (a .1)) ]
+
+-- so the first is the smallest
+pub first-smallest : (j : ℕ) (js : List ℕ) → Ascending (j ∷ js) → (i : ℕ) → i ∈ (j ∷ js) → j ≤ i
+first-smallest j js a i (inl e) = omega arith
+first-smallest j js a i (inr h) = a .0 i h
 
 -- lists in which no edge leads back
 module _ (E : Relation) where

@@ -6,3 +6,5 @@ pub mod Refusals
 pub mod Machine
 pub mod Runs
 pub mod Promises
+pub mod Laws
+pub mod Cases
