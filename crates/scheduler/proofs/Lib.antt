@@ -1,4 +1,5 @@
 pub mod Counting
+pub mod Draws
 pub mod Ends
 pub mod JobSlots
 pub mod Opens

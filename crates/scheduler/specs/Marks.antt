@@ -1,12 +1,14 @@
 -- What is left of the edges and of the items when a job's slot is taken out. Rests on Reading and on the
 -- machine.
 use mathlib.Core.Path.{_≡_}
-use mathlib.Core.Bool.{not, _&&_}
+use mathlib.Core.Bool.{Bool, true, false, not, _&&_, _||_}
 use mathlib.Core.List.{List}
 use Prim.Native.Nat.{ℕ}
 use lib.Dec.{eqb}
 use lib.ListN.{length}
+use Rattle.graph.specs.Edges.{Edges}
 use Rattle.graph.specs.Nodes.{has}
+use Rattle.graph.specs.Paths.{Path}
 use Rattle.history.specs.Machine.{let-go}
 use Rattle.scheduler.specs.declared.tables.ItemState.{ItemState}
 use Rattle.scheduler.specs.Reading.{item, row}
@@ -40,3 +42,17 @@ ItemLetGo j it it′ =
 -- all items, none of which job j holds any more
 abbrev pub ItemsLetGo : ℕ → List ItemState → List ItemState → Type 0
 ItemsLetGo j items items′ = (length items′ ≡ length items) × ((x : ℕ) → ItemLetGo j (item items x) (item items′ x))
+
+-- slots from which a step on an item draws edges to slot k: those of its other writers, and for a write
+-- those of its other readers too
+abbrev pub Sources : ItemState → Bool → ℕ → ℕ → Type 0
+Sources it writes k from = (a : ℕ) → has from a ≡ (not (eqb a k) && (has (it .writers) a || writes && has (it .readers) a))
+
+-- an edge between slots, with those from a set of slots to slot k drawn
+abbrev pub slot-edge : List ℕ → ℕ → ℕ → ℕ → ℕ → Bool
+slot-edge rows k from a b = has (row rows b) a || eqb b k && has from a
+
+-- with these edges drawn, a path leads from slot k to itself exactly when the answer is true
+abbrev pub TellsCycle : List ℕ → ℕ → ℕ → Bool → Type 0
+TellsCycle rows k from r =
+    (r ≡ true → Path (Edges 32 (slot-edge rows k from)) k k) × (r ≡ false → Path (Edges 32 (slot-edge rows k from)) k k → ⊥)
