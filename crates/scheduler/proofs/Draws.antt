@@ -33,7 +33,7 @@ path-along f g {i} {j} (edge e) = edge (g i j e)
 path-along f g {i} (_then_ {j = m} e p) = _then_ (g i m e) (path-along f g p)
 
 module _ (t : Tables) (sound : Sound t) (j k : ℕ) (is : k ≡ slot-of j (t .jobs .slots)) (within : k < 32) where
-  tell : (i : ℕ) → eqb (slot-of i (t .jobs .slots)) k ≡ eqb i j
+  pub tell : (i : ℕ) → eqb (slot-of i (t .jobs .slots)) k ≡ eqb i j
   tell i = subst (λ n. eqb (slot-of i (t .jobs .slots)) n ≡ eqb i j) (sym is) (slots-tell t sound i j (omega arith))
 
   pub mine : belongs j (slot (t .jobs .slots) k) ≡ true

@@ -1,3 +1,4 @@
+pub mod Accesses
 pub mod Counting
 pub mod Draws
 pub mod Ends

@@ -4,11 +4,13 @@ use mathlib.Core.Path.{_≡_}
 use mathlib.Core.Bool.{true}
 use mathlib.Core.List.{List}
 use Prim.Native.Nat.{ℕ, _<_, _≤_}
+use lib.Dec.{leb}
 use lib.ListN.{length, getD}
 use Rattle.std.specs.declared.option.Option.the-variants.{Some, None}
 use Rattle.graph.specs.Nodes.{has}
 use Rattle.history.specs.declared.refusal.Refusal.{Refusal}
-use Rattle.history.specs.Machine.{State, not-running}
+use Rattle.history.specs.declared.refusal.Refusal.the-variants.{ItemNotServed}
+use Rattle.history.specs.Machine.{State, not-running, refuse-if, held-by-another, _else_}
 use Rattle.scheduler.specs.declared.tables.ItemState.{ItemState}
 use Rattle.scheduler.specs.declared.tables.JobTable.{JobTable}
 use Rattle.scheduler.specs.declared.tables.Tables.{Tables}
@@ -76,3 +78,16 @@ RunsAt t j k = (k ≡ slot-of j (t .jobs .slots)) × (k < 32) × (slot (t .jobs 
 -- job j does not run, and a call for it is refused so
 abbrev pub Stopped : Tables → ℕ → Refusal → Type 0
 Stopped t j r = not-running (status-of (slot (t .jobs .slots) (slot-of j (t .jobs .slots)) .status)) ≡ Some r
+
+-- a step of job j on item x may be asked of the edges: the job runs in slot k, the item is served, and
+-- no other job holds it
+abbrev pub Admitted : Tables → ℕ → ℕ → ℕ → ℕ → Type 0
+Admitted t served j x k = RunsAt t j k × (x < served) × (held-by-another j (item (t .items) x .held) ≡ None)
+
+-- the step is refused before the edges are asked
+abbrev pub Barred : Tables → ℕ → ℕ → ℕ → Refusal → Type 0
+Barred t served j x r =
+    (not-running (status-of (slot (t .jobs .slots) (slot-of j (t .jobs .slots)) .status))
+    else refuse-if (leb served x) ItemNotServed
+    else held-by-another j (item (t .items) x .held))
+    ≡ Some r
