@@ -17,7 +17,7 @@ use Rattle.scheduler.specs.declared.tables.Tables.{Tables}
 use Rattle.scheduler.specs.Slots.{belongs, slot, slot-of}
 use Rattle.scheduler.specs.Reading.{idle, item, row, state, Taken, Sound}
 use Rattle.scheduler.specs.Marks.{Sources, slot-edge}
-use Rattle.scheduler.proofs.Draws.{or-false, tell, mine, from-taken, edge-taken, drawn-slots}
+use Rattle.scheduler.proofs.Draws.{row-drawn, tell, mine, from-taken, edge-taken, drawn-slots}
 use Rattle.scheduler.proofs.Sounds.{belongs-taken}
 use Rattle.scheduler.proofs.States.{same-state, put-same, put-other}
 
@@ -45,14 +45,8 @@ and-true false = refl
 
 module _ (t : Tables) (sound : Sound t) (j k : ℕ) (is : k ≡ slot-of j (t .jobs .slots)) (within : k < 32) where
   module _ (x from marks : ℕ) (writes : Bool) (sources : Sources (item (t .items) x) writes k from) (low : x < 64) (joined : (a : ℕ) → has marks a ≡ (has (row (t .jobs .edges) k) a || has from a)) where
-    row-drawn : (a b : ℕ) → has (row (set (t .jobs .edges) k marks) b) a ≡ slot-edge (t .jobs .edges) k from a b
-    row-drawn a b = elim (cases-eq b k) [
-        inl e ↦
-          ap (λ n. has (row (set (t .jobs .edges) k marks) n) a) e ∙ ap (λ w. has w a) (getD-set-same (t .jobs .edges) k marks 0 (omega (arith, sound .0 .1))) ∙ joined a
-          ∙ sym (ap (λ n. has (row (t .jobs .edges) n) a || eqb b k && has from a) e ∙ ap (λ c. has (row (t .jobs .edges) k) a || c && has from a) (eq-eqb b k e))
-      | inr d ↦
-          ap (λ w. has w a) (getD-set-other (t .jobs .edges) k b marks 0 d) ∙ sym (or-false (has (row (t .jobs .edges) b) a))
-          ∙ sym (ap (λ c. has (row (t .jobs .edges) b) a || c && has from a) (ne-eqb b k d)) ]
+    drawn-row : (a b : ℕ) → has (row (set (t .jobs .edges) k marks) b) a ≡ slot-edge (t .jobs .edges) k from a b
+    drawn-row = row-drawn (t .jobs .edges) k from marks (omega (arith, sound .0 .1)) joined
 
     module _ (it : ItemState) where
       item-x : (y : ℕ) → y ≡ x → item (set (t .items) x it) y ≡ it
@@ -66,7 +60,7 @@ module _ (t : Tables) (sound : Sound t) (j k : ℕ) (is : k ≡ slot-of j (t .jo
         (sound .0 .0, length-set (t .jobs .edges) k marks ∙ sound .0 .1, length-set (t .items) x it ∙ sound .0 .2, sound .0 .3),
         sound .1,
         (
-          (λ a b e. edge-taken t sound j k is within x from writes sources a b (sym (row-drawn a b) ∙ e)),
+          (λ a b e. edge-taken t sound j k is within x from writes sources a b (sym (drawn-row a b) ∙ e)),
           (λ y a e. elim (cases-eq y x) [
               inl s ↦ readers a (sym (ap (λ (i : ItemState). has (i .readers) a) (item-x y s)) ∙ e)
             | inr d ↦ sound .2 .1 y a (sym (ap (λ (i : ItemState). has (i .readers) a) (item-other y d)) ∙ e) ]),
@@ -89,7 +83,7 @@ module _ (t : Tables) (sound : Sound t) (j k : ℕ) (is : k ≡ slot-of j (t .jo
 
       pub stepped-edges : (values : List ℕ) (room : ℕ) (a b : ℕ) → state (stepped t k marks x it) values room .edges a b ≡ Rattle.history.specs.Machine.drawn (state t values room) j x writes a b
       unfolding state
-      stepped-edges values room a b = row-drawn (slot-of a (t .jobs .slots)) (slot-of b (t .jobs .slots)) ∙ drawn-slots t sound j k is within x from writes sources values room a b
+      stepped-edges values room a b = drawn-row (slot-of a (t .jobs .slots)) (slot-of b (t .jobs .slots)) ∙ drawn-slots t sound j k is within x from writes sources values room a b
 
   -- a set with slot k added has job j and the jobs that it had
   added-job : (set set′ : ℕ) → Added set k set′ → (i : ℕ) → has set′ (slot-of i (t .jobs .slots)) ≡ with-one j (λ n. has set (slot-of n (t .jobs .slots))) i

@@ -7,9 +7,17 @@ use Prim.Native.Nat.{ℕ, _+_, _<_, _≤_}
 use native.Mathlib.Omega.{arith}
 use lib.Dec.{T, eqb, ltb}
 use lib.ListN.{length, getD, set}
-use Rattle.std.proofs.shelf.Tests.{cases-bool, cases-eq, cases-lt, eqb-true, eq-eqb, ne-eqb, and-parts, both-ways, or-cases}
+use Rattle.std.proofs.shelf.Tests.{cases-bool, cases-eq, cases-lt, eqb-true, eq-eqb, ne-eqb, and-parts, both-ways, or-cases, and-from, lt-ltb, true≢false, false≢true}
+use Rattle.std.proofs.shelf.Lists.{getD-set-same, getD-set-other}
+use Rattle.std.specs.Options.{isSome}
+use Rattle.std.specs.declared.option.Option.{Option}
+use Rattle.std.specs.declared.option.Option.the-variants.{Some, None}
 use Rattle.graph.specs.Edges.{Edges}
 use Rattle.graph.specs.Nodes.{has}
+use Rattle.graph.specs.Outcomes.{Finds}
+use Rattle.graph.specs.Rows.{marked}
+use Rattle.graph.specs.declared.list.NodeList.{NodeList}
+use Rattle.graph.proofs.Paths.{path-map}
 use Rattle.graph.specs.Paths.{Relation, Path, edge, _then_, _∈_}
 use Rattle.history.specs.Machine.{State, jobs, those, rising, present, path, drawn, draws-from, closes-cycle}
 use Rattle.history.proofs.Lists.{T-true, true-T, ∈-those, ∈-rising}
@@ -31,6 +39,28 @@ or-false false = refl
 pub path-along : {E D : Relation} (f : ℕ → ℕ) → ((a b : ℕ) → E a b → D (f a) (f b)) → {i j : ℕ} → Path E i j → Path D (f i) (f j)
 path-along f g {i} {j} (edge e) = edge (g i j e)
 path-along f g {i} (_then_ {j = m} e p) = _then_ (g i m e) (path-along f g p)
+
+-- a row that has got the marks of a set of slots
+pub row-drawn : (rows : List ℕ) (k from marks : ℕ) → k < length rows → ((a : ℕ) → has marks a ≡ (has (row rows k) a || has from a)) → (a b : ℕ) → has (row (set rows k marks) b) a ≡ slot-edge rows k from a b
+row-drawn rows k from marks low joined a b = elim (cases-eq b k) [
+    inl e ↦
+      ap (λ n. has (row (set rows k marks) n) a) e ∙ ap (λ w. has w a) (getD-set-same rows k marks 0 low) ∙ joined a
+      ∙ sym (ap (λ n. has (row rows n) a || eqb b k && has from a) e ∙ ap (λ c. has (row rows k) a || c && has from a) (eq-eqb b k e))
+  | inr d ↦
+      ap (λ w. has w a) (getD-set-other rows k b marks 0 d) ∙ sym (or-false (has (row rows b) a))
+      ∙ sym (ap (λ c. has (row rows b) a || c && has from a) (ne-eqb b k d)) ]
+
+-- the path search over the rows with the new marks
+module _ (rows : List ℕ) (k from marks : ℕ) (low : k < length rows) (joined : (a : ℕ) → has marks a ≡ (has (row rows k) a || has from a)) where
+  marked-edge : (a b : ℕ) → Edges 32 (marked 32 (set rows k marks)) a b → Edges 32 (slot-edge rows k from) a b
+  marked-edge a b (f, g, h) = (f, g, true-T _ (sym (row-drawn rows k from marks low joined a b) ∙ and-parts (ltb b 32) _ (T-true _ h) .1))
+
+  edge-marked : (a b : ℕ) → Edges 32 (slot-edge rows k from) a b → Edges 32 (marked 32 (set rows k marks)) a b
+  edge-marked a b (f, g, h) = (f, g, true-T _ (and-from (ltb b 32) _ (lt-ltb b 32 g) (row-drawn rows k from marks low joined a b ∙ T-true _ h)))
+
+  pub cycle-told : (r : Option NodeList) → Finds (Edges 32 (marked 32 (set rows k marks))) k k r → TellsCycle rows k from (isSome r)
+  cycle-told None h = ((λ e. absurd (false≢true e)), (λ _ p. h (path-map edge-marked p)))
+  cycle-told (Some l) h = ((λ _. path-map marked-edge (h .0)), (λ e. absurd (true≢false e)))
 
 module _ (t : Tables) (sound : Sound t) (j k : ℕ) (is : k ≡ slot-of j (t .jobs .slots)) (within : k < 32) where
   pub tell : (i : ℕ) → eqb (slot-of i (t .jobs .slots)) k ≡ eqb i j

@@ -4,10 +4,12 @@
 // slots    the slots of the job table
 // tables   the job table, the item states and the next number
 // opening  opening a job
+// stepping reading and writing an item
 // ending   committing and aborting a job
 // sweeps   taking a job out of edges and items
 mod ending;
 mod opening;
+mod stepping;
 mod sweeps;
 pub mod slots;
 pub mod tables;
