@@ -4,6 +4,7 @@ pub mod Draws
 pub mod Ends
 pub mod JobSlots
 pub mod Opens
+pub mod Permits
 pub mod Removes
 pub mod Sounds
 pub mod States

@@ -82,4 +82,61 @@ impl Tables {
         check_holder(self.items[item as usize].held, job)?;
         Ok(slot)
     }
+
+    // Reads an item that the store holds this value of, and of whose items so many are served.
+    pub(crate) fn read(
+        &mut self,
+        served: usize,
+        job: u32,
+        item: u32,
+        stored: u32,
+    ) -> Result<u32, Refusal>
+        requires { ⌜ Sound (now self) × (served ≤ 64) ⌝ }
+        ensures sound { λ _. ⌜ Sound (now (self .exit)) ⌝ }
+        ensures reads { λ r. ⌜ ((values : List ℕ) (room : ℕ) → served ≡ min 64 (length values) → (item < served → stored ≡ getD values item 0) → Reads (state (now (self .entry)) values room) job item r (state (now (self .exit)) values room)) ⌝ }
+    {
+        let slot = self.admit(served, job, item)?;
+        let at = item as usize;
+        let state = self.items[at];
+        let from = read_sources(&state, slot);
+        if closes_cycle(&self.jobs.edges, slot, from) {
+            self.remove(job, slot);
+            return Err(Refusal::ClosesCycle);
+        }
+        self.jobs.edges[slot] = union(self.jobs.edges[slot], from);
+        self.items[at] = ItemState {
+            readers: with(state.readers, slot),
+            ..state
+        };
+        Ok(seen(state.held, stored))
+    }
+
+    // Writes an item, of which so many are served: the job holds it from now on.
+    pub(crate) fn write(
+        &mut self,
+        served: usize,
+        job: u32,
+        item: u32,
+        value: u32,
+    ) -> Result<(), Refusal>
+        requires { ⌜ Sound (now self) × (served ≤ 64) ⌝ }
+        ensures sound { λ _. ⌜ Sound (now (self .exit)) ⌝ }
+        ensures writes { λ r. ⌜ ((values : List ℕ) (room : ℕ) → served ≡ min 64 (length values) → Writes (state (now (self .entry)) values room) job item value r (state (now (self .exit)) values room)) ⌝ }
+    {
+        let slot = self.admit(served, job, item)?;
+        let at = item as usize;
+        let state = self.items[at];
+        let from = write_sources(&state, slot);
+        if closes_cycle(&self.jobs.edges, slot, from) {
+            self.remove(job, slot);
+            return Err(Refusal::ClosesCycle);
+        }
+        self.jobs.edges[slot] = union(self.jobs.edges[slot], from);
+        self.items[at] = ItemState {
+            held: Some(Holding { job, value }),
+            writers: with(state.writers, slot),
+            ..state
+        };
+        Ok(())
+    }
 }
