@@ -6,6 +6,8 @@ pub mod JobSlots
 pub mod Opens
 pub mod Permits
 pub mod Removes
+pub mod Retires
+pub mod SlotSets
 pub mod Sounds
 pub mod States
 pub mod Swept

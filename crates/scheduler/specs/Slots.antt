@@ -1,9 +1,11 @@
 -- Slots of the job table, and which of them belongs to a job. Rests on nothing.
 use mathlib.Core.Bool.{Bool, true, false, not, cond, _&&_}
-use mathlib.Core.List.{List, [], _∷_}
+use mathlib.Core.Path.{_≡_}
+use mathlib.Core.List.{List, [], _∷_, map}
 use Prim.Native.Nat.{ℕ, suc}
-use lib.Dec.{eqb}
+use lib.Dec.{eqb, ltb}
 use lib.ListN.{getD}
+use Rattle.graph.specs.Nodes.{has}
 use Rattle.history.specs.Machine.{Status, absent, running, committed}
 use Rattle.scheduler.specs.declared.slots.Slot.{Slot}
 use Rattle.scheduler.specs.declared.slots.SlotStatus.{SlotStatus}
@@ -43,3 +45,23 @@ slot-of j slots = first (belongs j) slots
 
 abbrev pub is-free : Slot → Bool
 is-free s = not (taken (s .status))
+
+-- the two say the same
+abbrev pub same-status : SlotStatus → SlotStatus → Bool
+same-status Free Free = true
+same-status Free Running = false
+same-status Free Committed = false
+same-status Running Free = false
+same-status Running Running = true
+same-status Running Committed = false
+same-status Committed Free = false
+same-status Committed Running = false
+same-status Committed Committed = true
+
+-- the set of the slots that say this
+abbrev pub SlotsWith : SlotStatus → List Slot → ℕ → Type 0
+SlotsWith status slots set = (a : ℕ) → has set a ≡ (ltb a 32 && same-status (slot slots a .status) status)
+
+-- the numbers in the slots
+abbrev pub numbers : List Slot → List ℕ
+numbers slots = map (λ s. s .job) slots

@@ -1,7 +1,8 @@
 // The slots of the job table, and how a job's is found.
 ghost use mathlib.Core.Path.{_≡_};
 ghost use Rattle.scheduler.specs.declared.slots.SlotStatus.the-variants.{Free, Running, Committed};
-ghost use Rattle.scheduler.specs.Slots.{slot-of, first, is-free as free, belongs as taken-by};
+ghost use Rattle.scheduler.specs.Slots.{slot-of, first, is-free as free, belongs as taken-by, same-status, SlotsWith, numbers as jobs};
+use graph::nodes::with;
 
 // What a slot says of its job.
 #[derive(Clone, Copy, PartialEq, Eq, Debug)]
@@ -84,4 +85,40 @@ pub fn close(slot: &mut Slot)
     ensures { λ _. ⌜ now (slot .exit) ≡ record { job = now (slot .entry) .job; status = Committed } ⌝ }
 {
     slot.status = SlotStatus::Committed;
+}
+
+// Whether the slot says this.
+pub fn says(slot: &Slot, status: SlotStatus) -> bool
+    ensures { λ r. ⌜ r ≡ same-status (now (slot .entry) .status) status ⌝ }
+{
+    match (slot.status, status) {
+        (SlotStatus::Free, SlotStatus::Free) => true,
+        (SlotStatus::Running, SlotStatus::Running) => true,
+        (SlotStatus::Committed, SlotStatus::Committed) => true,
+        _ => false,
+    }
+}
+
+// The set of the slots that say this.
+pub fn slots_with(slots: &[Slot; 32], status: SlotStatus) -> u64
+    ensures { λ r. ⌜ SlotsWith status (now (slots .entry)) r ⌝ }
+{
+    let mut set = 0;
+    for k in 0..32 {
+        if says(&slots[k], status) {
+            set = with(set, k);
+        }
+    }
+    set
+}
+
+// The numbers in the slots, free ones too.
+pub fn numbers(slots: &[Slot; 32]) -> [u32; 32]
+    ensures { λ r. ⌜ r ≡ jobs (now (slots .entry)) ⌝ }
+{
+    let mut numbers = [0; 32];
+    for k in 0..32 {
+        numbers[k] = slots[k].job;
+    }
+    numbers
 }
