@@ -6,6 +6,7 @@ pub mod JobSlots
 pub mod Opens
 pub mod Permits
 pub mod Removes
+pub mod RetireRuns
 pub mod Retires
 pub mod SlotSets
 pub mod Sounds

@@ -23,7 +23,7 @@ use Rattle.scheduler.specs.declared.slots.SlotStatus.{SlotStatus}
 use Rattle.scheduler.specs.declared.slots.SlotStatus.the-variants.{Free, Running, Committed}
 use Rattle.scheduler.specs.declared.tables.Tables.{Tables}
 use Rattle.scheduler.specs.Slots.{status-of, taken, belongs, free-slot, slot, slot-of, same-status, SlotsWith, numbers}
-use Rattle.scheduler.specs.Reading.{row, state, Taken, Sound}
+use Rattle.scheduler.specs.Reading.{row, state, Taken, Sound, NextRetires}
 use Rattle.scheduler.proofs.Counting.{present-taken}
 use Rattle.scheduler.proofs.Sounds.{belongs-taken, belongs-number, taken-belongs, taken-within, slot-mine, slot-missing, slot-of-number}
 
@@ -162,3 +162,22 @@ module _ (t : Tables) (sound : Sound t) (values : List ℕ) (room : ℕ) where
 
     pub picked-taken : (n : ℕ) → First (Edges 32 (marked 32 (t .jobs .edges))) 32 (numbers (t .jobs .slots)) (has present-set) (has committed-set) n → n ≡ slot-of (slot (t .jobs .slots) n .job) (t .jobs .slots)
     picked-taken n f = sym (slot-of-number t sound n (committed-taken _ (and-parts (ltb n 32) _ (sym (done n) ∙ T-true _ (f .among)) .1)))
+
+-- the taken slots are those of the running and of the committed jobs
+present-slots : (slots : List Slot) (running committed both : ℕ) → SlotsWith Running slots running → SlotsWith Committed slots committed → ((a : ℕ) → has both a ≡ (has running a || has committed a)) → (a : ℕ) → has both a ≡ (ltb a 32 && taken (slot slots a .status))
+present-slots slots running committed both r c b a =
+    b a ∙ ap (λ x. x || has committed a) (r a) ∙ ap (λ x. (ltb a 32 && same-status (slot slots a .status) Running) || x) (c a)
+    ∙ join (ltb a 32) (same-status (slot slots a .status) Running) (same-status (slot slots a .status) Committed)
+    ∙ ap (λ x. ltb a 32 && x) (sym (taken-says (slot slots a .status)))
+  where
+    join : (x y z : Bool) → ((x && y) || (x && z)) ≡ (x && (y || z))
+    join true y z = refl
+    join false y z = refl
+
+pub picks-next : (t : Tables) → Sound t → (running committed both : ℕ) (keys : List ℕ) → SlotsWith Running (t .jobs .slots) running → SlotsWith Committed (t .jobs .slots) committed → ((a : ℕ) → has both a ≡ (has running a || has committed a)) → keys ≡ numbers (t .jobs .slots) → (r : Option ℕ) → Picks (Edges 32 (marked 32 (t .jobs .edges))) 32 keys (has both) (has committed) r → NextRetires t r
+picks-next t sound running committed both keys r c b e None h = λ values room.
+    none-retires t sound values room both committed (present-slots (t .jobs .slots) running committed both r c b) c h
+picks-next t sound running committed both keys r c b e (Some n) h =
+    let all = present-slots (t .jobs .slots) running committed both r c b in
+    let f = subst (λ ks. First (Edges 32 (marked 32 (t .jobs .edges))) 32 ks (has both) (has committed) n) e h in
+    (f .inside, picked-taken t sound [] 0 both committed all c n f, λ values room. first-retires t sound values room both committed all c n f)

@@ -2,15 +2,16 @@
 -- number. Rests on Slots and on the machine.
 use mathlib.Core.Path.{_≡_}
 use mathlib.Core.Bool.{true}
-use mathlib.Core.List.{List}
+use mathlib.Core.List.{List, [], _∷_}
 use Prim.Native.Nat.{ℕ, _<_, _≤_}
 use lib.Dec.{leb}
 use lib.ListN.{length, getD}
+use Rattle.std.specs.declared.option.Option.{Option}
 use Rattle.std.specs.declared.option.Option.the-variants.{Some, None}
 use Rattle.graph.specs.Nodes.{has}
 use Rattle.history.specs.declared.refusal.Refusal.{Refusal}
 use Rattle.history.specs.declared.refusal.Refusal.the-variants.{ItemNotServed}
-use Rattle.history.specs.Machine.{State, not-running, refuse-if, held-by-another, _else_}
+use Rattle.history.specs.Machine.{State, not-running, refuse-if, held-by-another, _else_, retirable}
 use Rattle.scheduler.specs.declared.tables.ItemState.{ItemState}
 use Rattle.scheduler.specs.declared.tables.JobTable.{JobTable}
 use Rattle.scheduler.specs.declared.tables.Tables.{Tables}
@@ -91,3 +92,10 @@ Barred t served j x r =
     else refuse-if (leb served x) ItemNotServed
     else held-by-another j (item (t .items) x .held))
     ≡ Some r
+
+-- no job may retire, or the next one that does has slot n
+abbrev pub NextRetires : Tables → Option ℕ → Type 0
+NextRetires t None = (values : List ℕ) (room : ℕ) → retirable (state t values room) ≡ []
+NextRetires t (Some n) =
+    (n < 32) × (n ≡ slot-of (slot (t .jobs .slots) n .job) (t .jobs .slots))
+    × ((values : List ℕ) (room : ℕ) → (js : List ℕ) × (retirable (state t values room) ≡ slot (t .jobs .slots) n .job ∷ js))

@@ -6,10 +6,12 @@
 // opening  opening a job
 // stepping reading and writing an item
 // ending   committing and aborting a job
+// retiring retiring committed jobs
 // sweeps   taking a job out of edges and items
 mod ending;
 mod opening;
 mod stepping;
 mod sweeps;
+mod retiring;
 pub mod slots;
 pub mod tables;
