@@ -1,8 +1,10 @@
 pub mod Accesses
+pub mod Commits
 pub mod Counting
 pub mod Draws
 pub mod Ends
 pub mod JobSlots
+pub mod Makes
 pub mod Opens
 pub mod Permits
 pub mod Removes

@@ -11,7 +11,7 @@ use Rattle.std.specs.declared.option.Option.the-variants.{Some, None}
 use Rattle.graph.specs.Nodes.{has}
 use Rattle.history.specs.declared.refusal.Refusal.{Refusal}
 use Rattle.history.specs.declared.refusal.Refusal.the-variants.{ItemNotServed}
-use Rattle.history.specs.Machine.{State, not-running, refuse-if, held-by-another, _else_, retirable}
+use Rattle.history.specs.Machine.{State, not-running, refuse-if, held-by-another, _else_, retirable, those, rising, holds}
 use Rattle.scheduler.specs.declared.tables.ItemState.{ItemState}
 use Rattle.scheduler.specs.declared.tables.JobTable.{JobTable}
 use Rattle.scheduler.specs.declared.tables.Tables.{Tables}
@@ -99,3 +99,7 @@ NextRetires t None = (values : List ℕ) (room : ℕ) → retirable (state t val
 NextRetires t (Some n) =
     (n < 32) × (n ≡ slot-of (slot (t .jobs .slots) n .job) (t .jobs .slots))
     × ((values : List ℕ) (room : ℕ) → (js : List ℕ) × (retirable (state t values room) ≡ slot (t .jobs .slots) n .job ∷ js))
+
+-- the items below n that job j holds, rising
+abbrev pub held-below : Tables → ℕ → ℕ → List ℕ
+held-below t j n = those (λ x. holds j (item (t .items) x .held)) (rising 0 n)

@@ -1,6 +1,12 @@
 // The tables of the hub: plain values, with no invariant of their own.
+ghost use Prim.Native.Nat.{ℕ};
+ghost use mathlib.Core.List.{List};
+ghost use mathlib.Core.Path.{_≡_};
+ghost use Rattle.history.specs.Machine.{made};
+ghost use Rattle.scheduler.specs.Reading.{state, Sound};
 use history::holding::Holding;
 use super::slots::Slot;
+use super::slots::SlotStatus;
 
 // One item as the jobs see it: who holds it, and the slots of its present readers and writers.
 #[derive(Clone, Copy)]
@@ -23,4 +29,32 @@ pub struct Tables {
     pub jobs: JobTable,
     pub items: [ItemState; 64],
     pub next: u64,
+}
+
+const FREE: Slot = Slot {
+    job: 0,
+    status: SlotStatus::Free,
+};
+
+const IDLE: ItemState = ItemState {
+    held: None,
+    readers: 0,
+    writers: 0,
+};
+
+impl Tables {
+    // No job is present, and the first one gets this number.
+    pub(crate) fn new(first: u32) -> Tables
+        ensures sound { λ r. ⌜ Sound r ⌝ }
+        ensures makes { λ r. ⌜ ((values : List ℕ) (room : ℕ) → state r values room ≡ made 32 first values room) ⌝ }
+    {
+        Tables {
+            jobs: JobTable {
+                slots: [FREE; 32],
+                edges: [0; 32],
+            },
+            items: [IDLE; 64],
+            next: first as u64,
+        }
+    }
 }
