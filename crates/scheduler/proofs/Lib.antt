@@ -1,5 +1,6 @@
 pub mod Accesses
 pub mod Commits
+pub mod Cored
 pub mod Counting
 pub mod Draws
 pub mod Ends

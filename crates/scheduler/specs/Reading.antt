@@ -72,6 +72,43 @@ Marked t =
 abbrev pub Sound : Tables → Type 0
 Sound t = Sized t × Numbered t × Marked t
 
+-- The same facts as the scheduler's type holds them, where each may have only few premises.
+
+-- two slots of one job
+pub record Shared (slots : List Slot) : Type 0 where
+  pub a : ℕ
+  pub b : ℕ
+  pub job : ℕ
+  pub first : belongs job (slot slots a) ≡ true
+  pub second : belongs job (slot slots b) ≡ true
+
+-- a slot of a job
+pub record Owned (slots : List Slot) : Type 0 where
+  pub a : ℕ
+  pub job : ℕ
+  pub is : belongs job (slot slots a) ≡ true
+
+-- a mark of slot a in set n of some sets
+pub record Mark (sets : ℕ → ℕ) : Type 0 where
+  pub a : ℕ
+  pub n : ℕ
+  pub is : has (sets n) a ≡ true
+
+abbrev pub OneSlot : Tables → Type 0
+OneSlot t = (p : Shared (t .jobs .slots)) → p .a ≡ p .b
+
+abbrev pub GivenOut : Tables → Type 0
+GivenOut t = (p : Owned (t .jobs .slots)) → p .job < t .next
+
+abbrev pub EdgesTaken : Tables → Type 0
+EdgesTaken t = (p : Mark (row (t .jobs .edges))) → Taken (t .jobs .slots) (p .a) × Taken (t .jobs .slots) (p .n)
+
+abbrev pub ReadersTaken : Tables → Type 0
+ReadersTaken t = (p : Mark (λ x. item (t .items) x .readers)) → Taken (t .jobs .slots) (p .a)
+
+abbrev pub WritersTaken : Tables → Type 0
+WritersTaken t = (p : Mark (λ x. item (t .items) x .writers)) → Taken (t .jobs .slots) (p .a)
+
 -- slot k is that of the running job j
 abbrev pub RunsAt : Tables → ℕ → ℕ → Type 0
 RunsAt t j k = (k ≡ slot-of j (t .jobs .slots)) × (k < 32) × (slot (t .jobs .slots) k .status ≡ Running)
