@@ -62,24 +62,28 @@ module _ (t : Tables) (sound : Sound t) (j k : ℕ) (is : k ≡ slot-of j (t .jo
         (
           (λ a b e. edge-taken t sound j k is within x from writes sources a b (sym (drawn-row a b) ∙ e)),
           (λ y a e. elim (cases-eq y x) [
-              inl s ↦ readers a (sym (ap (λ (i : ItemState). has (i .readers) a) (item-x y s)) ∙ e)
-            | inr d ↦ sound .2 .1 y a (sym (ap (λ (i : ItemState). has (i .readers) a) (item-other y d)) ∙ e) ]),
+            | inl s ↦ readers a (sym (ap (λ (i : ItemState). has (i .readers) a) (item-x y s)) ∙ e)
+            | inr d ↦ sound .2 .1 y a (sym (ap (λ (i : ItemState). has (i .readers) a) (item-other y d)) ∙ e)
+          ]),
           (λ y a e. elim (cases-eq y x) [
-              inl s ↦ writers a (sym (ap (λ (i : ItemState). has (i .writers) a) (item-x y s)) ∙ e)
-            | inr d ↦ sound .2 .2 y a (sym (ap (λ (i : ItemState). has (i .writers) a) (item-other y d)) ∙ e) ]),
+            | inl s ↦ writers a (sym (ap (λ (i : ItemState). has (i .writers) a) (item-x y s)) ∙ e)
+            | inr d ↦ sound .2 .2 y a (sym (ap (λ (i : ItemState). has (i .writers) a) (item-other y d)) ∙ e)
+          ]),
         ),
       )
 
       -- a part of the items is as it was but at item x
       at-items : {A : Type 0} (part : ItemState → A) (new : A) → part it ≡ new → (y : ℕ) → part (item (set (t .items) x it) y) ≡ put-at x new (λ z. part (item (t .items) z)) y
       at-items part new e y = elim (cases-eq y x) [
-          inl s ↦ ap part (item-x y s) ∙ e ∙ sym (put-same x new (λ z. part (item (t .items) z)) y s)
-        | inr d ↦ ap part (item-other y d) ∙ sym (put-other x new (λ z. part (item (t .items) z)) y d) ]
+        | inl s ↦ ap part (item-x y s) ∙ e ∙ sym (put-same x new (λ z. part (item (t .items) z)) y s)
+        | inr d ↦ ap part (item-other y d) ∙ sym (put-other x new (λ z. part (item (t .items) z)) y d)
+      ]
 
       kept-items : {A : Type 0} (part : ItemState → A) → part it ≡ part (item (t .items) x) → (y : ℕ) → part (item (set (t .items) x it) y) ≡ part (item (t .items) y)
       kept-items part e y = elim (cases-eq y x) [
-          inl s ↦ ap part (item-x y s) ∙ e ∙ sym (ap (λ z. part (item (t .items) z)) s)
-        | inr d ↦ ap part (item-other y d) ]
+        | inl s ↦ ap part (item-x y s) ∙ e ∙ sym (ap (λ z. part (item (t .items) z)) s)
+        | inr d ↦ ap part (item-other y d)
+      ]
 
       pub stepped-edges : (values : List ℕ) (room : ℕ) (a b : ℕ) → state (stepped t k marks x it) values room .edges a b ≡ Rattle.history.specs.Machine.drawn (state t values room) j x writes a b
       unfolding state
@@ -95,8 +99,9 @@ module _ (t : Tables) (sound : Sound t) (j k : ℕ) (is : k ≡ slot-of j (t .jo
 
   added-taken : (set set′ : ℕ) → Added set k set′ → ((a : ℕ) → has set a ≡ true → Taken (t .jobs .slots) a) → (a : ℕ) → has set′ a ≡ true → Taken (t .jobs .slots) a
   added-taken set set′ added old a e = elim (or-cases (has set a) _ (sym (added a) ∙ e)) [
-      inl h ↦ old a h
-    | inr h ↦ subst (Taken (t .jobs .slots)) (sym (eqb-true a k (and-parts (eqb a k) (ltb k 64) h .0))) (belongs-taken j _ (mine t sound j k is within)) ]
+    | inl h ↦ old a h
+    | inr h ↦ subst (Taken (t .jobs .slots)) (sym (eqb-true a k (and-parts (eqb a k) (ltb k 64) h .0))) (belongs-taken j _ (mine t sound j k is within))
+  ]
 
   module _ (x from marks : ℕ) (low : x < 64) (joined : (a : ℕ) → has marks a ≡ (has (row (t .jobs .edges) k) a || has from a)) where
     -- the item as a read leaves it, with these readers

@@ -35,8 +35,9 @@ those-both : (p : ℕ → Bool) (xs ys : List ℕ) → those p (xs ++ ys) ≡ th
 unfolding those
 those-both p [] ys = refl
 those-both p (x ∷ xs) ys = elim (cases-bool (p x)) [
-    inl e ↦ ap (λ b. cond b (x ∷ those p (xs ++ ys)) (those p (xs ++ ys))) e ∙ ap (λ l. x ∷ l) (those-both p xs ys) ∙ sym (ap (λ b. cond b (x ∷ those p xs) (those p xs) ++ those p ys) e)
-  | inr e ↦ ap (λ b. cond b (x ∷ those p (xs ++ ys)) (those p (xs ++ ys))) e ∙ those-both p xs ys ∙ sym (ap (λ b. cond b (x ∷ those p xs) (those p xs) ++ those p ys) e) ]
+  | inl e ↦ ap (λ b. cond b (x ∷ those p (xs ++ ys)) (those p (xs ++ ys))) e ∙ ap (λ l. x ∷ l) (those-both p xs ys) ∙ sym (ap (λ b. cond b (x ∷ those p xs) (those p xs) ++ those p ys) e)
+  | inr e ↦ ap (λ b. cond b (x ∷ those p (xs ++ ys)) (those p (xs ++ ys))) e ∙ those-both p xs ys ∙ sym (ap (λ b. cond b (x ∷ those p xs) (those p xs) ++ those p ys) e)
+]
 
 those-one : (p : ℕ → Bool) (x : ℕ) → those p (x ∷ []) ≡ cond (p x) (x ∷ []) []
 unfolding those
@@ -97,16 +98,18 @@ module _ (t : Tables) (sound : Sound t) (j k : ℕ) (runs : RunsAt t j k) where
   same-owner : (i a : ℕ) → belongs i (slot slots′ a) ≡ belongs i (slot (t .jobs .slots) a)
   unfolding new
   same-owner i a = elim (cases-eq a k) [
-      inl e ↦
+    | inl e ↦
         ap (belongs i) (ap (slot slots′) e ∙ at-k)
         ∙ sym (ap (belongs i) (ap (slot (t .jobs .slots)) e) ∙ ap (λ st. taken st && eqb (slot (t .jobs .slots) k .job) i) (runs .2))
-    | inr d ↦ ap (belongs i) (at-other a d) ]
+    | inr d ↦ ap (belongs i) (at-other a d)
+  ]
 
   same-taken : (a : ℕ) → Taken (t .jobs .slots) a → Taken slots′ a
   unfolding new
   same-taken a h = elim (cases-eq a k) [
-      inl e ↦ ap (λ (s : Slot). taken (s .status)) (ap (slot slots′) e ∙ at-k)
-    | inr d ↦ ap (λ (s : Slot). taken (s .status)) (at-other a d) ∙ h ]
+    | inl e ↦ ap (λ (s : Slot). taken (s .status)) (ap (slot slots′) e ∙ at-k)
+    | inr d ↦ ap (λ (s : Slot). taken (s .status)) (at-other a d) ∙ h
+  ]
 
   same-slot : (i : ℕ) → slot-of i slots′ ≡ slot-of i (t .jobs .slots)
   same-slot i = first-same (belongs i) slots′ (t .jobs .slots) (length′ ∙ sym (sound .0 .0)) (λ a _. same-owner i a)
@@ -117,12 +120,13 @@ module _ (t : Tables) (sound : Sound t) (j k : ℕ) (runs : RunsAt t j k) where
   status′ : (i : ℕ) → status-of (slot slots′ (slot-of i slots′) .status) ≡ put-at j committed by-slot i
   unfolding new
   status′ i = elim (cases-eq i j) [
-      inl e ↦
+    | inl e ↦
         ap (λ (s : Slot). status-of (s .status)) (ap (slot slots′) (same-slot i ∙ ap (λ n. slot-of n (t .jobs .slots)) e ∙ sym (runs .0)) ∙ at-k)
         ∙ sym (put-same j committed by-slot i e)
     | inr d ↦
         ap (λ (s : Slot). status-of (s .status)) (ap (slot slots′) (same-slot i) ∙ at-other _ (λ e. both-ways (eqb i j) (ne-eqb i j d) (sym (tell t sound j k (runs .0) (runs .1) i) ∙ eq-eqb _ _ e)))
-        ∙ sym (put-other j committed by-slot i d) ]
+        ∙ sym (put-other j committed by-slot i d)
+  ]
 
   module _ (items′ : List ItemState) (let-go : ItemsLetGo j (t .items) items′) where
     pub ended-sound : Sound (closed t k (slot (t .jobs .slots) k .job) items′)

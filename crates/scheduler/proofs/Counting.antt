@@ -34,18 +34,18 @@ those-one-more p m a zero e l h = absurd (omega arith)
 those-one-more p m a (suc n) e l h =
     let q : ℕ → Bool = λ j. eqb m j || p j in
     elim (cases-eq m a) [
-      inl here ↦
-        let passes : q a ≡ true = ap (λ b. b || p a) (eq-eqb m a here) in
-        let fails : p a ≡ false = ap p (sym here) ∙ e in
-        let rest = those-same q p (suc a) n (λ j k. ap (λ b. b || p j) (ne-eqb m j (λ s. absurd (omega arith)))) in
-        ap (λ b. length (cond b (a ∷ those q (rising (suc a) n)) (those q (rising (suc a) n)))) passes
-        ∙ ap (λ l. suc (length l)) rest
-        ∙ sym (ap (λ b. suc (length (cond b (a ∷ those p (rising (suc a) n)) (those p (rising (suc a) n))))) fails)
-    | inr other ↦
-        let same : q a ≡ p a = ap (λ b. b || p a) (ne-eqb m a other) in
-        let rest = those-one-more p m (suc a) n e (omega arith) (omega arith) in
-        ap (λ b. length (cond b (a ∷ those q (rising (suc a) n)) (those q (rising (suc a) n)))) same
-        ∙ grow (p a) (those q (rising (suc a) n)) (those p (rising (suc a) n)) rest
+      | inl here ↦
+          let passes : q a ≡ true = ap (λ b. b || p a) (eq-eqb m a here) in
+          let fails : p a ≡ false = ap p (sym here) ∙ e in
+          let rest = those-same q p (suc a) n (λ j k. ap (λ b. b || p j) (ne-eqb m j (λ s. absurd (omega arith)))) in
+          ap (λ b. length (cond b (a ∷ those q (rising (suc a) n)) (those q (rising (suc a) n)))) passes
+          ∙ ap (λ l. suc (length l)) rest
+          ∙ sym (ap (λ b. suc (length (cond b (a ∷ those p (rising (suc a) n)) (those p (rising (suc a) n))))) fails)
+      | inr other ↦
+          let same : q a ≡ p a = ap (λ b. b || p a) (ne-eqb m a other) in
+          let rest = those-one-more p m (suc a) n e (omega arith) (omega arith) in
+          ap (λ b. length (cond b (a ∷ those q (rising (suc a) n)) (those q (rising (suc a) n)))) same
+          ∙ grow (p a) (those q (rising (suc a) n)) (those p (rising (suc a) n)) rest
     ]
   where
     grow : (b : Bool) (xs ys : List ℕ) → length xs ≡ suc (length ys) → length (cond b (a ∷ xs) xs) ≡ suc (length (cond b (a ∷ ys) ys))
@@ -72,12 +72,12 @@ unfolding occupied
 present-occupied j [] = refl
 present-occupied j (s ∷ ss) =
     elim (cases-bool (belongs j s)) [
-      inl e ↦
-        ap (λ b. taken (slot (s ∷ ss) (cond b 0 (suc (slot-of j ss))) .status)) e ∙ and-parts (taken (s .status)) (eqb (s .job) j) e .0
-        ∙ sym (ap (λ b. b || occupied ss j) e)
-    | inr e ↦
-        ap (λ b. taken (slot (s ∷ ss) (cond b 0 (suc (slot-of j ss))) .status)) e ∙ present-occupied j ss
-        ∙ sym (ap (λ b. b || occupied ss j) e)
+      | inl e ↦
+          ap (λ b. taken (slot (s ∷ ss) (cond b 0 (suc (slot-of j ss))) .status)) e ∙ and-parts (taken (s .status)) (eqb (s .job) j) e .0
+          ∙ sym (ap (λ b. b || occupied ss j) e)
+      | inr e ↦
+          ap (λ b. taken (slot (s ∷ ss) (cond b 0 (suc (slot-of j ss))) .status)) e ∙ present-occupied j ss
+          ∙ sym (ap (λ b. b || occupied ss j) e)
     ]
 
 -- the slots have numbers below n, no two the same
@@ -109,14 +109,14 @@ count-occupied n [] h = none-pass n 0
 count-occupied n (s ∷ ss) h =
     let rest = count-occupied n ss (numbers-rest n s ss h) in
     elim (cases-bool (taken (s .status))) [
-      inl e ↦
-        let mine : belongs (s .job) s ≡ true = ap (λ b. b && eqb (s .job) (s .job)) e ∙ eq-eqb (s .job) (s .job) refl in
-        let more = those-one-more (occupied ss) (s .job) 0 n (none-occupied (s .job) ss (not-occupied n (s .job) s ss h mine)) (omega arith) (omega (arith, h .1 0 (s .job) mine)) in
-        let same = those-same (occupied (s ∷ ss)) (λ j. eqb (s .job) j || occupied ss j) 0 n (λ j _. ap (λ b. (b && eqb (s .job) j) || occupied ss j) e) in
-        ap length same ∙ more ∙ ap suc rest ∙ sym (ap (λ b. cond b (suc (taken-count ss)) (taken-count ss)) e)
-    | inr e ↦
-        let same = those-same (occupied (s ∷ ss)) (occupied ss) 0 n (λ j _. ap (λ b. (b && eqb (s .job) j) || occupied ss j) e) in
-        ap length same ∙ rest ∙ sym (ap (λ b. cond b (suc (taken-count ss)) (taken-count ss)) e)
+      | inl e ↦
+          let mine : belongs (s .job) s ≡ true = ap (λ b. b && eqb (s .job) (s .job)) e ∙ eq-eqb (s .job) (s .job) refl in
+          let more = those-one-more (occupied ss) (s .job) 0 n (none-occupied (s .job) ss (not-occupied n (s .job) s ss h mine)) (omega arith) (omega (arith, h .1 0 (s .job) mine)) in
+          let same = those-same (occupied (s ∷ ss)) (λ j. eqb (s .job) j || occupied ss j) 0 n (λ j _. ap (λ b. (b && eqb (s .job) j) || occupied ss j) e) in
+          ap length same ∙ more ∙ ap suc rest ∙ sym (ap (λ b. cond b (suc (taken-count ss)) (taken-count ss)) e)
+      | inr e ↦
+          let same = those-same (occupied (s ∷ ss)) (occupied ss) 0 n (λ j _. ap (λ b. (b && eqb (s .job) j) || occupied ss j) e) in
+          ap length same ∙ rest ∙ sym (ap (λ b. cond b (suc (taken-count ss)) (taken-count ss)) e)
     ]
 
 -- one slot more is free, or taken

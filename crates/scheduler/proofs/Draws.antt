@@ -43,12 +43,13 @@ path-along f g {i} (_then_ {j = m} e p) = _then_ (g i m e) (path-along f g p)
 -- a row that has got the marks of a set of slots
 pub row-drawn : (rows : List ℕ) (k from marks : ℕ) → k < length rows → ((a : ℕ) → has marks a ≡ (has (row rows k) a || has from a)) → (a b : ℕ) → has (row (set rows k marks) b) a ≡ slot-edge rows k from a b
 row-drawn rows k from marks low joined a b = elim (cases-eq b k) [
-    inl e ↦
+  | inl e ↦
       ap (λ n. has (row (set rows k marks) n) a) e ∙ ap (λ w. has w a) (getD-set-same rows k marks 0 low) ∙ joined a
       ∙ sym (ap (λ n. has (row rows n) a || eqb b k && has from a) e ∙ ap (λ c. has (row rows k) a || c && has from a) (eq-eqb b k e))
   | inr d ↦
       ap (λ w. has w a) (getD-set-other rows k b marks 0 d) ∙ sym (or-false (has (row rows b) a))
-      ∙ sym (ap (λ c. has (row rows b) a || c && has from a) (ne-eqb b k d)) ]
+      ∙ sym (ap (λ c. has (row rows b) a || c && has from a) (ne-eqb b k d))
+]
 
 -- the path search over the rows with the new marks
 module _ (rows : List ℕ) (k from marks : ℕ) (low : k < length rows) (joined : (a : ℕ) → has marks a ≡ (has (row rows k) a || has from a)) where
@@ -74,34 +75,36 @@ module _ (t : Tables) (sound : Sound t) (j k : ℕ) (is : k ≡ slot-of j (t .jo
     from-taken a e =
         let p = and-parts (not (eqb a k)) _ (sym (sources a) ∙ e) in
         elim (or-cases (has (item (t .items) x .writers) a) _ (p .1)) [
-          inl w ↦ sound .2 .2 x a w
-        | inr r ↦ sound .2 .1 x a (and-parts writes _ r .1) ]
+          | inl w ↦ sound .2 .2 x a w
+          | inr r ↦ sound .2 .1 x a (and-parts writes _ r .1)
+        ]
 
     -- an edge between slots leads from a taken slot to a taken slot
     pub edge-taken : (a b : ℕ) → slot-edge (t .jobs .edges) k from a b ≡ true → Taken (t .jobs .slots) a × Taken (t .jobs .slots) b
     edge-taken a b e = elim (or-cases (has (row (t .jobs .edges) b) a) _ e) [
-        inl old ↦ sound .2 .0 a b old
+      | inl old ↦ sound .2 .0 a b old
       | inr new ↦
           (let p = and-parts (eqb b k) (has from a) new in
-          (from-taken a (p .1), subst (Taken (t .jobs .slots)) (sym (eqb-true b k (p .0))) (belongs-taken j _ mine))) ]
+          (from-taken a (p .1), subst (Taken (t .jobs .slots)) (sym (eqb-true b k (p .0))) (belongs-taken j _ mine)))
+    ]
 
     -- the edges between slots are the machine's between their jobs
     pub drawn-slots : (values : List ℕ) (room a b : ℕ) → slot-edge (t .jobs .edges) k from (slot-of a (t .jobs .slots)) (slot-of b (t .jobs .slots)) ≡ drawn (state t values room) j x writes a b
     unfolding state
     drawn-slots values room a b =
         ap (λ c. has (row (t .jobs .edges) (slot-of b (t .jobs .slots))) (slot-of a (t .jobs .slots)) || eqb (slot-of b (t .jobs .slots)) k && c)
-          (sources (slot-of a (t .jobs .slots)) ∙ ap (λ c. not c && (has (item (t .items) x .writers) (slot-of a (t .jobs .slots)) || writes && has (item (t .items) x .readers) (slot-of a (t .jobs .slots)))) (tell a))
+        (sources (slot-of a (t .jobs .slots)) ∙ ap (λ c. not c && (has (item (t .items) x .writers) (slot-of a (t .jobs .slots)) || writes && has (item (t .items) x .readers) (slot-of a (t .jobs .slots)))) (tell a))
         ∙ ap (λ c. has (row (t .jobs .edges) (slot-of b (t .jobs .slots))) (slot-of a (t .jobs .slots)) || c && draws-from (state t values room) j x writes a) (tell b)
 
     module _ (values : List ℕ) (room : ℕ) where
       slots-to-jobs : Path (Edges 32 (slot-edge (t .jobs .edges) k from)) k k → Path (Drawn (drawn (state t values room) j x writes)) j j
       slots-to-jobs p =
           let along = path-along (λ n. slot (t .jobs .slots) n .job) (λ a b e.
-              let m = edge-taken a b (T-true _ (e .2)) in
-              sym (drawn-slots values room (slot (t .jobs .slots) a .job) (slot (t .jobs .slots) b .job))
-              ∙ ap (λ n. slot-edge (t .jobs .edges) k from n (slot-of (slot (t .jobs .slots) b .job) (t .jobs .slots))) (slot-of-number t sound a (m .0))
-              ∙ ap (slot-edge (t .jobs .edges) k from a) (slot-of-number t sound b (m .1))
-              ∙ T-true _ (e .2)) p in
+          let m = edge-taken a b (T-true _ (e .2)) in
+          sym (drawn-slots values room (slot (t .jobs .slots) a .job) (slot (t .jobs .slots) b .job))
+          ∙ ap (λ n. slot-edge (t .jobs .edges) k from n (slot-of (slot (t .jobs .slots) b .job) (t .jobs .slots))) (slot-of-number t sound a (m .0))
+          ∙ ap (slot-edge (t .jobs .edges) k from a) (slot-of-number t sound b (m .1))
+          ∙ T-true _ (e .2)) p in
           let number = belongs-number j (slot (t .jobs .slots) k) mine in
           subst₂ (Path (Drawn (drawn (state t values room) j x writes))) number number along
 
@@ -111,8 +114,8 @@ module _ (t : Tables) (sound : Sound t) (j k : ℕ) (is : k ≡ slot-of j (t .jo
       jobs-to-slots : Path (Drawn (drawn (state t values room) j x writes)) j j → Path (Edges 32 (slot-edge (t .jobs .edges) k from)) k k
       jobs-to-slots p =
           let along = path-along {D = Edges 32 (slot-edge (t .jobs .edges) k from)} (λ n. slot-of n (t .jobs .slots)) (λ a b e.
-              let m = drawn-taken a b e in
-              (taken-within t sound _ (m .0), taken-within t sound _ (m .1), true-T _ (drawn-slots values room a b ∙ e))) p in
+          let m = drawn-taken a b e in
+          (taken-within t sound _ (m .0), taken-within t sound _ (m .1), true-T _ (drawn-slots values room a b ∙ e))) p in
           subst₂ (Path (Edges 32 (slot-edge (t .jobs .edges) k from))) (sym is) (sym is) along
 
       -- a job that has a slot is present
@@ -129,5 +132,6 @@ module _ (t : Tables) (sound : Sound t) (j k : ℕ) (is : k ≡ slot-of j (t .jo
       pub search-tells : (r : Bool) → TellsCycle (t .jobs .edges) k from r → closes-cycle (state t values room) j x writes ≡ r
       search-tells true h = path-found (drawn (state t values room) j x writes) (jobs (state t values room)) j j (λ a b e. listed-job a (drawn-taken a b e .0)) (slots-to-jobs (h .0 refl))
       search-tells false h = elim (cases-bool (closes-cycle (state t values room) j x writes)) [
-          inl e ↦ absurd (h .1 refl (jobs-to-slots (path-sound (drawn (state t values room) j x writes) (jobs (state t values room)) j j e)))
-        | inr e ↦ e ]
+        | inl e ↦ absurd (h .1 refl (jobs-to-slots (path-sound (drawn (state t values room) j x writes) (jobs (state t values room)) j j e)))
+        | inr e ↦ e
+      ]

@@ -58,8 +58,9 @@ module _ (t : Tables) (sound : Sound t) (k : ℕ) (is : k ≡ first is-free (t .
   -- what belongs to whom afterwards
   belongs′ : (a j : ℕ) → belongs j (slot slots′ a) ≡ true → ((a ≡ k) × (j ≡ t .next)) ⊎ (belongs j (slot (t .jobs .slots) a) ≡ true)
   belongs′ a j e = elim (cases-eq a k) [
-      inl same ↦ inl (same, sym (eqb-true (t .next) j (sym (ap (belongs j) (ap (slot slots′) same ∙ at-k)) ∙ e)))
-    | inr other ↦ inr (sym (ap (belongs j) (at-other a other)) ∙ e) ]
+    | inl same ↦ inl (same, sym (eqb-true (t .next) j (sym (ap (belongs j) (ap (slot slots′) same ∙ at-k)) ∙ e)))
+    | inr other ↦ inr (sym (ap (belongs j) (at-other a other)) ∙ e)
+  ]
 
   fresh : (a : ℕ) → belongs (t .next) (slot (t .jobs .slots) a) ≡ true → ⊥
   fresh a e = let z = sound .1 .1 a (t .next) e in omega arith
@@ -74,31 +75,35 @@ module _ (t : Tables) (sound : Sound t) (k : ℕ) (is : k ≡ first is-free (t .
   slot-of-old j d =
       first-same (belongs j) slots′ (t .jobs .slots) (length′ ∙ sym (sound .0 .0))
       (λ a _. elim (cases-eq a k) [
-          inl same ↦ ap (belongs j) (ap (slot slots′) same ∙ at-k) ∙ ne-eqb (t .next) j (λ e. d (sym e)) ∙ sym (ap (belongs j) (ap (slot (t .jobs .slots)) same) ∙ free-belongs j _ k-free)
-        | inr other ↦ ap (belongs j) (at-other a other) ])
+        | inl same ↦ ap (belongs j) (ap (slot slots′) same ∙ at-k) ∙ ne-eqb (t .next) j (λ e. d (sym e)) ∙ sym (ap (belongs j) (ap (slot (t .jobs .slots)) same) ∙ free-belongs j _ k-free)
+        | inr other ↦ ap (belongs j) (at-other a other)
+      ])
 
   slot-of-absent : 32 ≤ slot-of (t .next) (t .jobs .slots)
   slot-of-absent = elim (cases-lt (slot-of (t .next) (t .jobs .slots)) 32) [
-      inl l ↦ absurd (fresh _ (first-passes (belongs (t .next)) (t .jobs .slots) (omega (arith, sound .0 .0))))
-    | inr l ↦ l ]
+    | inl l ↦ absurd (fresh _ (first-passes (belongs (t .next)) (t .jobs .slots) (omega (arith, sound .0 .0))))
+    | inr l ↦ l
+  ]
 
   -- a set that has no free slots has the same jobs
   same-mark : (P : ℕ → Bool) → ((a : ℕ) → taken (slot (t .jobs .slots) a .status) ≡ false → P a ≡ false) → (j : ℕ) → P (slot-of j slots′) ≡ P (slot-of j (t .jobs .slots))
   same-mark P free j = elim (cases-eq j (t .next)) [
-      inl e ↦ ap P (ap (λ n. slot-of n slots′) e ∙ slot-of-new) ∙ free k k-free ∙ sym (free _ (slot-missing t sound j (subst (λ n. 32 ≤ slot-of n (t .jobs .slots)) (sym e) slot-of-absent)))
-    | inr d ↦ ap P (slot-of-old j d) ]
+    | inl e ↦ ap P (ap (λ n. slot-of n slots′) e ∙ slot-of-new) ∙ free k k-free ∙ sym (free _ (slot-missing t sound j (subst (λ n. 32 ≤ slot-of n (t .jobs .slots)) (sym e) slot-of-absent)))
+    | inr d ↦ ap P (slot-of-old j d)
+  ]
 
   abbrev by-slot : ℕ → Status
   by-slot i = status-of (slot (t .jobs .slots) (slot-of i (t .jobs .slots)) .status)
 
   status′ : (j : ℕ) → status-of (slot slots′ (slot-of j slots′) .status) ≡ put-at (t .next) running by-slot j
   status′ j = elim (cases-eq j (t .next)) [
-      inl e ↦
+    | inl e ↦
         ap (λ (s : Slot). status-of (s .status)) (ap (slot slots′) (ap (λ n. slot-of n slots′) e ∙ slot-of-new) ∙ at-k)
         ∙ sym (put-same (t .next) running by-slot j e)
     | inr d ↦
         ap (λ (s : Slot). status-of (s .status)) (ap (slot slots′) (slot-of-old j d) ∙ at-other _ (λ e. not-k j d e))
-        ∙ sym (put-other (t .next) running by-slot j d) ]
+        ∙ sym (put-other (t .next) running by-slot j d)
+  ]
     where
       not-k : (j : ℕ) → (j ≡ t .next → ⊥) → slot-of j (t .jobs .slots) ≡ k → ⊥
       not-k j d e =
@@ -123,8 +128,9 @@ module _ (t : Tables) (sound : Sound t) (k : ℕ) (is : k ≡ first is-free (t .
 
   taken′ : (a : ℕ) → Taken (t .jobs .slots) a → Taken slots′ a
   taken′ a h = elim (cases-eq a k) [
-      inl e ↦ absurd (both-ways _ k-free (subst (λ n. taken (slot (t .jobs .slots) n .status) ≡ true) e h))
-    | inr d ↦ ap (λ (s : Slot). taken (s .status)) (at-other a d) ∙ h ]
+    | inl e ↦ absurd (both-ways _ k-free (subst (λ n. taken (slot (t .jobs .slots) n .status) ≡ true) e h))
+    | inr d ↦ ap (λ (s : Slot). taken (s .status)) (at-other a d) ∙ h
+  ]
 
   pub opened-sound : t .next ≤ 4294967295 → Sound (with-job t k)
   unfolding slots′
@@ -136,8 +142,10 @@ module _ (t : Tables) (sound : Sound t) (k : ℕ) (is : k ≡ first is-free (t .
     where
       one : (a b j : ℕ) → belongs j (slot slots′ a) ≡ true → belongs j (slot slots′ b) ≡ true → a ≡ b
       one a b j e f = elim (belongs′ a j e) [
-          inl p ↦ elim (belongs′ b j f) [ inl q ↦ p .0 ∙ sym (q .0) | inr old ↦ absurd (fresh b (subst (λ n. belongs n (slot (t .jobs .slots) b) ≡ true) (p .1) old)) ]
-        | inr old ↦ elim (belongs′ b j f) [ inl q ↦ absurd (fresh a (subst (λ n. belongs n (slot (t .jobs .slots) a) ≡ true) (q .1) old)) | inr old-b ↦ sound .1 .0 a b j old old-b ] ]
+        | inl p ↦ elim (belongs′ b j f) [ inl q ↦ p .0 ∙ sym (q .0) | inr old ↦ absurd (fresh b (subst (λ n. belongs n (slot (t .jobs .slots) b) ≡ true) (p .1) old)) ]
+        | inr old ↦ elim (belongs′ b j f) [ inl q ↦ absurd (fresh a (subst (λ n. belongs n (slot (t .jobs .slots) a) ≡ true) (q .1) old)) | inr old-b ↦ sound .1 .0 a b j old old-b ]
+      ]
+
       given : (a j : ℕ) → belongs j (slot slots′ a) ≡ true → j < t .next + 1
       given a j e = elim (belongs′ a j e) [ inl p ↦ (let z = p .1 in omega arith) | inr old ↦ (let z = sound .1 .1 a j old in omega arith) ]
 

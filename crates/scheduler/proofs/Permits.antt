@@ -69,8 +69,9 @@ else-last o p q z e f g = ap (λ a. a else p else q else z) e ∙ ap (λ a. a el
 seen-value : (j : ℕ) (o : Option Holding) (v : ℕ) → held-by-another j o ≡ None → held-value o v ≡ cond (holds j o) (held-value o 0) v
 seen-value j None v e = refl
 seen-value j (Some h) v e = elim (cases-bool (eqb (h .job) j)) [
-    inl mine ↦ sym (ap (λ b. cond b (h .value) v) mine)
-  | inr other ↦ no-refusal _ (sym e ∙ ap (λ b. refuse-if (not b) (ItemHeld (h .job))) other) ]
+  | inl mine ↦ sym (ap (λ b. cond b (h .value) v) mine)
+  | inr other ↦ no-refusal _ (sym e ∙ ap (λ b. refuse-if (not b) (ItemHeld (h .job))) other)
+]
 
 module _ (t : Tables) (j x count : ℕ) (values : List ℕ) (room : ℕ) (is : count ≡ min 64 (length values)) where
   s : State
@@ -100,9 +101,9 @@ module _ (t : Tables) (j x count : ℕ) (values : List ℕ) (room : ℕ) (is : c
   admitted k (runs, low, free) z =
       served-test z
       ∙ else-last (not-running (s .status j)) (refuse-if (leb count x) ItemNotServed) (held-by-another j (s .held x)) z
-        (ap not-running (ap (λ n. status-of (slot (t .jobs .slots) n .status)) (sym (runs .0)) ∙ ap status-of (runs .2)))
-        (ap (λ b. refuse-if b ItemNotServed) (lt-leb count x low))
-        free
+      (ap not-running (ap (λ n. status-of (slot (t .jobs .slots) n .status)) (sym (runs .0)) ∙ ap status-of (runs .2)))
+      (ap (λ b. refuse-if b ItemNotServed) (lt-leb count x low))
+      free
 
   pub read-barred : (r : Refusal) → Barred t count j x r → Steps (state t values room) (read j x) (refused r) (state t values room)
   unfolding refusal refused-state s before

@@ -59,8 +59,9 @@ module _ (t : Tables) (sound : Sound t) (j k number : ℕ) (is : k ≡ slot-of j
   -- what belonged to another job still does, and slot k to none
   belongs-still : (a i : ℕ) → belongs i (slot slots′ a) ≡ true → (a ≡ k → ⊥) × (belongs i (slot (t .jobs .slots) a) ≡ true)
   belongs-still a i e = elim (cases-eq a k) [
-      inl same ↦ absurd (both-ways _ (free-belongs i (slot slots′ k) free-k) (subst (λ n. belongs i (slot slots′ n) ≡ true) same e))
-    | inr other ↦ (other, sym (ap (belongs i) (at-other a other)) ∙ e) ]
+    | inl same ↦ absurd (both-ways _ (free-belongs i (slot slots′ k) free-k) (subst (λ n. belongs i (slot slots′ n) ≡ true) same e))
+    | inr other ↦ (other, sym (ap (belongs i) (at-other a other)) ∙ e)
+  ]
 
   slot-of-gone : slot-of j slots′ ≡ 32
   slot-of-gone = first-none (belongs j) slots′ (λ a _. false-since _ _ (belongs-still a j) (λ h. h .0 (sound .1 .0 a k j (h .1) mine))) ∙ length′
@@ -69,8 +70,9 @@ module _ (t : Tables) (sound : Sound t) (j k number : ℕ) (is : k ≡ slot-of j
   slot-of-other i d =
       first-same (belongs i) slots′ (t .jobs .slots) (length′ ∙ sym (sound .0 .0))
       (λ a _. elim (cases-eq a k) [
-          inl same ↦ ap (λ n. belongs i (slot slots′ n)) same ∙ free-belongs i _ free-k ∙ sym (ap (λ n. belongs i (slot (t .jobs .slots) n)) same ∙ not-its i d)
-        | inr other ↦ ap (belongs i) (at-other a other) ])
+        | inl same ↦ ap (λ n. belongs i (slot slots′ n)) same ∙ free-belongs i _ free-k ∙ sym (ap (λ n. belongs i (slot (t .jobs .slots) n)) same ∙ not-its i d)
+        | inr other ↦ ap (belongs i) (at-other a other)
+      ])
     where
       not-its : (i : ℕ) → (i ≡ j → ⊥) → belongs i (slot (t .jobs .slots) k) ≡ false
       not-its i d = false-since _ _ (λ e. e) (λ e. d (sym (belongs-number i _ e) ∙ belongs-number j _ mine))
@@ -81,22 +83,24 @@ module _ (t : Tables) (sound : Sound t) (j k number : ℕ) (is : k ≡ slot-of j
   -- a set that has no free slots, without slot k, is the set of jobs without job j
   same-mark : (P P′ : ℕ → Bool) → ((a : ℕ) → taken (slot (t .jobs .slots) a .status) ≡ false → P a ≡ false) → ((a : ℕ) → P′ a ≡ (not (eqb a k) && P a)) → (i : ℕ) → P′ (slot-of i slots′) ≡ (not (eqb i j) && P (slot-of i (t .jobs .slots)))
   same-mark P P′ free clear i = elim (cases-eq i j) [
-      inl e ↦
+    | inl e ↦
         clear (slot-of i slots′) ∙ ap (λ b. not (eqb (slot-of i slots′) k) && b) (ap (λ n. P (slot-of n slots′)) e ∙ ap P slot-of-gone ∙ free 32 free-end) ∙ and-false (not (eqb (slot-of i slots′) k))
         ∙ sym (ap (λ b. not b && P (slot-of i (t .jobs .slots))) (eq-eqb i j e))
-    | inr d ↦ ap P′ (slot-of-other i d) ∙ clear (slot-of i (t .jobs .slots)) ∙ ap (λ b. not b && P (slot-of i (t .jobs .slots))) (tell i) ]
+    | inr d ↦ ap P′ (slot-of-other i d) ∙ clear (slot-of i (t .jobs .slots)) ∙ ap (λ b. not b && P (slot-of i (t .jobs .slots))) (tell i)
+  ]
 
   abbrev by-slot : ℕ → Status
   by-slot i = status-of (slot (t .jobs .slots) (slot-of i (t .jobs .slots)) .status)
 
   status′ : (i : ℕ) → status-of (slot slots′ (slot-of i slots′) .status) ≡ put-at j absent by-slot i
   status′ i = elim (cases-eq i j) [
-      inl e ↦
+    | inl e ↦
         ap (λ (s : Slot). status-of (s .status)) (ap (slot slots′) (ap (λ n. slot-of n slots′) e ∙ slot-of-gone) ∙ slot-past slots′ 32 (omega (arith, length′)))
         ∙ sym (put-same j absent by-slot i e)
     | inr d ↦
         ap (λ (s : Slot). status-of (s .status)) (ap (slot slots′) (slot-of-other i d) ∙ at-other _ (not-k i d))
-        ∙ sym (put-other j absent by-slot i d) ]
+        ∙ sym (put-other j absent by-slot i d)
+  ]
 
   module _ (rows′ : List ℕ) (items′ : List ItemState) (edges : EdgesWithout k (t .jobs .edges) rows′) (items : ItemsWithout j k (t .items) items′) where
     -- the edges between the jobs that are left
@@ -109,12 +113,12 @@ module _ (t : Tables) (sound : Sound t) (j k number : ℕ) (is : k ≡ slot-of j
         (λ n. edges .1 n (slot-of a slots′))
         b
         ∙ ap (λ c. not (eqb b j) && c)
-          (same-mark
-          (has (row (t .jobs .edges) (slot-of b (t .jobs .slots))))
-          (λ m. not (eqb m k) && has (row (t .jobs .edges) (slot-of b (t .jobs .slots))) m)
-          (λ m. free-no-edge t sound m (slot-of b (t .jobs .slots)))
-          (λ m. refl)
-          a)
+        (same-mark
+        (has (row (t .jobs .edges) (slot-of b (t .jobs .slots))))
+        (λ m. not (eqb m k) && has (row (t .jobs .edges) (slot-of b (t .jobs .slots))) m)
+        (λ m. free-no-edge t sound m (slot-of b (t .jobs .slots)))
+        (λ m. refl)
+        a)
 
     pub removed-state : (values : List ℕ) (room : ℕ) → state (without-slot t k number rows′ items′) values room ≡ removed j (state t values room)
     unfolding state removed slots′

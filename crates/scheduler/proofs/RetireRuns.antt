@@ -99,7 +99,9 @@ module _ (t₀ : Tables) (lent : List ℕ) (count : ℕ) (t : Tables) (list : Li
 
     pub retired-all : Retires (state t₀ values room) lent count (state t values room) list
     retired-all = (
-      take count list, over-steps, sym count-is,
+      take count list,
+      over-steps,
+      sym count-is,
       sym (take-append-drop count list) ∙ ap (λ l. take count list ++ l) (so-far .rest ∙ ap (λ n. drop n lent) (sym count-is)),
     )
 

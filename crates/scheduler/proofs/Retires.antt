@@ -91,11 +91,12 @@ module _ (t : Tables) (sound : Sound t) (values : List ℕ) (room : ℕ) where
     nothing-into : (n : ℕ) → n < 32 → NothingInto n → (a : ℕ) → has (row (t .jobs .edges) n) a ≡ false
     unfolding NothingInto
     nothing-into n low free a = elim (cases-bool (has (row (t .jobs .edges) n) a)) [
-        inl e ↦
+      | inl e ↦
           (let m = sound .2 .0 a n e in
           let l = taken-within t sound a (m .0) in
           absurd (free a (true-T _ (all a ∙ and-from _ _ (lt-ltb a 32 l) (m .0))) (l, low, true-T _ (and-from _ _ (lt-ltb n 32 low) e))))
-      | inr e ↦ e ]
+      | inr e ↦ e
+    ]
 
     into-nothing : (n : ℕ) → ((a : ℕ) → has (row (t .jobs .edges) n) a ≡ false) → NothingInto n
     unfolding NothingInto
@@ -112,11 +113,12 @@ module _ (t : Tables) (sound : Sound t) (values : List ℕ) (room : ℕ) where
         let j = slot (t .jobs .slots) n .job in
         let committed : has-committed (by-slot j) ≡ true = ap (λ k. has-committed (status-of (slot (t .jobs .slots) k .status))) its ∙ committed-says _ ∙ says in
         let no-edge : any (λ i. leads i j) (jobs (state t values room)) ≡ false =
-            elim (cases-bool (any (λ i. leads i j) (jobs (state t values room)))) [
-              inl some ↦
-                (let w = any-true (λ i. leads i j) (jobs (state t values room)) some in
-                absurd (both-ways _ (none (slot-of (w .0) (t .jobs .slots))) (sym (ap (λ k. has (row (t .jobs .edges) k) (slot-of (w .0) (t .jobs .slots))) its) ∙ w .2)))
-            | inr e ↦ e ] in
+        elim (cases-bool (any (λ i. leads i j) (jobs (state t values room)))) [
+          | inl some ↦
+              (let w = any-true (λ i. leads i j) (jobs (state t values room)) some in
+              absurd (both-ways _ (none (slot-of (w .0) (t .jobs .slots))) (sym (ap (λ k. has (row (t .jobs .edges) k) (slot-of (w .0) (t .jobs .slots))) its) ∙ w .2)))
+          | inr e ↦ e
+        ] in
         subst (λ l. j ∈ l) (sym retirable-is)
         (∈-those may j (jobs (state t values room)) (is-present j (subst (Taken (t .jobs .slots)) (sym its) is-taken)) (and-from _ _ committed (not-from-false _ no-edge)))
 
@@ -129,14 +131,18 @@ module _ (t : Tables) (sound : Sound t) (values : List ℕ) (room : ℕ) where
         let low = taken-within t sound _ is-taken in
         let p = and-parts (has-committed (by-slot j)) _ (m .1) in
         let says = sym (committed-says (slot (t .jobs .slots) (slot-of j (t .jobs .slots)) .status)) ∙ p .0 in
-        let no-edge = not-true _ (p .1) in
-        (low, true-T _ (done _ ∙ and-from _ _ (lt-ltb _ 32 low) says), into-nothing _ (λ a. elim (cases-bool (has (row (t .jobs .edges) (slot-of j (t .jobs .slots))) a)) [
-            inl e ↦
-              (let b = sound .2 .0 a _ e in
-              let its = slot-of-number t sound a (b .0) in
-              let i = slot (t .jobs .slots) a .job in
-              absurd (both-ways _ no-edge (true-any (λ i. leads i j) i (jobs (state t values room)) (is-present i (subst (Taken (t .jobs .slots)) (sym its) (b .0))) (ap (has (row (t .jobs .edges) (slot-of j (t .jobs .slots)))) its ∙ e))))
-          | inr e ↦ e ]))
+        let no-edge = not-true _ (p .1) in (
+          low,
+          true-T _ (done _ ∙ and-from _ _ (lt-ltb _ 32 low) says),
+          into-nothing _ (λ a. elim (cases-bool (has (row (t .jobs .edges) (slot-of j (t .jobs .slots))) a)) [
+            | inl e ↦
+                (let b = sound .2 .0 a _ e in
+                let its = slot-of-number t sound a (b .0) in
+                let i = slot (t .jobs .slots) a .job in
+                absurd (both-ways _ no-edge (true-any (λ i. leads i j) i (jobs (state t values room)) (is-present i (subst (Taken (t .jobs .slots)) (sym its) (b .0))) (ap (has (row (t .jobs .edges) (slot-of j (t .jobs .slots)))) its ∙ e))))
+            | inr e ↦ e
+          ]),
+        )
 
     pub none-retires : Picks (Edges 32 (marked 32 (t .jobs .edges))) 32 (numbers (t .jobs .slots)) (has present-set) (has committed-set) None → retirable (state t values room) ≡ []
     unfolding NothingInto
@@ -154,11 +160,11 @@ module _ (t : Tables) (sound : Sound t) (values : List ℕ) (room : ℕ) where
     first-retires n f =
         those-head (retirable (state t values room)) (slot (t .jobs .slots) n .job) ascending (slot-may n (f .inside) (f .among) (f .free))
         (λ i m.
-            let s = may-slot i m in
-            let its = belongs-number i _ (slot-mine t sound i (s .0)) in
-            let a = key-is n (f .inside) in
-            let b = key-is (slot-of i (t .jobs .slots)) (s .0) in
-            elim (f .first (slot-of i (t .jobs .slots)) (s .0) (s .1) (s .2)) [ inl less ↦ omega arith | inr same ↦ (let e = same .0 in omega arith) ])
+        let s = may-slot i m in
+        let its = belongs-number i _ (slot-mine t sound i (s .0)) in
+        let a = key-is n (f .inside) in
+        let b = key-is (slot-of i (t .jobs .slots)) (s .0) in
+        elim (f .first (slot-of i (t .jobs .slots)) (s .0) (s .1) (s .2)) [ inl less ↦ omega arith | inr same ↦ (let e = same .0 in omega arith) ])
 
     pub picked-taken : (n : ℕ) → First (Edges 32 (marked 32 (t .jobs .edges))) 32 (numbers (t .jobs .slots)) (has present-set) (has committed-set) n → n ≡ slot-of (slot (t .jobs .slots) n .job) (t .jobs .slots)
     picked-taken n f = sym (slot-of-number t sound n (committed-taken _ (and-parts (ltb n 32) _ (sym (done n) ∙ T-true _ (f .among)) .1)))

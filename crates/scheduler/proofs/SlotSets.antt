@@ -23,7 +23,7 @@ gathered-none p a = bit-none a ∙ sym (ap (λ b. b && p a) (le-ltb a 0 (omega a
 -- whether a place below n + 1 is below n, or n itself
 below-next : (p : ℕ → Bool) (n : ℕ) (b : Bool) → p n ≡ b → (a : ℕ) → (ltb a (n + 1) && p a) ≡ ((ltb a n && p a) || (eqb a n && b))
 below-next p n b e a = elim (cases-order a n) [
-    inl same ↦
+  | inl same ↦
       ap (λ c. c && p a) (lt-ltb a (n + 1) (omega arith)) ∙ ap p same ∙ e
       ∙ sym (ap (λ c. (c && p a) || (eqb a n && b)) (le-ltb a n (omega arith)) ∙ ap (λ c. c && b) (eq-eqb a n same))
   | inr (inl less) ↦
@@ -31,7 +31,8 @@ below-next p n b e a = elim (cases-order a n) [
       ∙ sym (ap (λ c. (c && p a) || (eqb a n && b)) (lt-ltb a n less) ∙ ap (λ c. p a || (c && b)) (ne-eqb a n (λ s. absurd (omega arith))) ∙ or-none (p a))
   | inr (inr more) ↦
       ap (λ c. c && p a) (le-ltb a (n + 1) (omega arith))
-      ∙ sym (ap (λ c. (c && p a) || (eqb a n && b)) (le-ltb a n (omega arith)) ∙ ap (λ c. c && b) (ne-eqb a n (λ s. absurd (omega arith)))) ]
+      ∙ sym (ap (λ c. (c && p a) || (eqb a n && b)) (le-ltb a n (omega arith)) ∙ ap (λ c. c && b) (ne-eqb a n (λ s. absurd (omega arith))))
+]
   where
     or-none : (c : Bool) → (c || false) ≡ c
     or-none true = refl

@@ -58,8 +58,9 @@ item-let-go-idle j x = (refl, refl, refl)
 module _ (t : Tables) (sound : Sound t) where
   pub taken-within : (k : ℕ) → Taken (t .jobs .slots) k → k < 32
   taken-within k h = elim (cases-lt k 32) [
-      inl l ↦ l
-    | inr l ↦ absurd (both-ways (taken (slot (t .jobs .slots) k .status)) (ap (λ (s : Slot). taken (s .status)) (slot-past (t .jobs .slots) k (omega (arith, sound .0 .0)))) h) ]
+    | inl l ↦ l
+    | inr l ↦ absurd (both-ways (taken (slot (t .jobs .slots) k .status)) (ap (λ (s : Slot). taken (s .status)) (slot-past (t .jobs .slots) k (omega (arith, sound .0 .0)))) h)
+  ]
 
   -- a free slot has no marks
 
@@ -93,8 +94,9 @@ module _ (t : Tables) (sound : Sound t) where
   -- the jobs of two slots are one job exactly when the slots are one slot
   pub slots-tell : (i j : ℕ) → slot-of j (t .jobs .slots) < 32 → eqb (slot-of i (t .jobs .slots)) (slot-of j (t .jobs .slots)) ≡ eqb i j
   slots-tell i j h = elim (cases-eq i j) [
-      inl e ↦ eq-eqb _ _ (ap (λ n. slot-of n (t .jobs .slots)) e) ∙ sym (eq-eqb i j e)
-    | inr d ↦ ne-eqb _ _ (λ e. d (same e)) ∙ sym (ne-eqb i j d) ]
+    | inl e ↦ eq-eqb _ _ (ap (λ n. slot-of n (t .jobs .slots)) e) ∙ sym (eq-eqb i j e)
+    | inr d ↦ ne-eqb _ _ (λ e. d (same e)) ∙ sym (ne-eqb i j d)
+  ]
     where
       same : slot-of i (t .jobs .slots) ≡ slot-of j (t .jobs .slots) → i ≡ j
       same e =

@@ -22,12 +22,14 @@ module _ {X : Type 0} (R : ℕ → X → X → Type 0) (d : X) (xs : List X) whe
   swept-more n ys y s h r = record {
     long = length-set ys n y ∙ s .long;
     below = λ k l. elim (cases-eq k n) [
-        inl e ↦ subst (λ m. R m (getD xs m d) (getD (set ys n y) m d)) (sym e) (subst₂ (R n) (s .above n (omega arith)) (sym (getD-set-same ys n y d h)) r)
-      | inr o ↦ subst (R k (getD xs k d)) (sym (getD-set-other ys n k y d o)) (s .below k (omega arith)) ];
+      | inl e ↦ subst (λ m. R m (getD xs m d) (getD (set ys n y) m d)) (sym e) (subst₂ (R n) (s .above n (omega arith)) (sym (getD-set-same ys n y d h)) r)
+      | inr o ↦ subst (R k (getD xs k d)) (sym (getD-set-other ys n k y d o)) (s .below k (omega arith))
+    ];
     above = λ k l. getD-set-other ys n k y d (λ e. absurd (omega arith)) ∙ s .above k (omega arith);
   }
 
   pub swept-all : (n : ℕ) (ys : List X) → Swept R d n xs ys → length xs ≤ n → ((k : ℕ) → R k d d) → (k : ℕ) → R k (getD xs k d) (getD ys k d)
   swept-all n ys s h past k = elim (cases-lt k n) [
-      inl l ↦ s .below k l
-    | inr l ↦ subst₂ (R k) (sym (getD-past xs k d (omega arith))) (sym (getD-past ys k d (omega (arith, s .long)))) (past k) ]
+    | inl l ↦ s .below k l
+    | inr l ↦ subst₂ (R k) (sym (getD-past xs k d (omega arith))) (sym (getD-past ys k d (omega (arith, s .long)))) (past k)
+  ]

@@ -34,16 +34,16 @@ row rows b = getD rows b 0
 -- the state of the machine that the tables stand for, over a store with these values and this room
 unfoldable pub state : Tables → List ℕ → ℕ → State
 state t values room =
-    record
-    { slots = 32
-    ; next = t .next
-    ; status = λ j. status-of (slot (t .jobs .slots) (slot-of j (t .jobs .slots)) .status)
-    ; held = λ x. item (t .items) x .held
-    ; readers = λ x j. has (item (t .items) x .readers) (slot-of j (t .jobs .slots))
-    ; writers = λ x j. has (item (t .items) x .writers) (slot-of j (t .jobs .slots))
-    ; edges = λ i j. has (row (t .jobs .edges) (slot-of j (t .jobs .slots))) (slot-of i (t .jobs .slots))
-    ; values = values
-    ; room = room
+    record {
+      slots = 32;
+      next = t .next;
+      status = λ j. status-of (slot (t .jobs .slots) (slot-of j (t .jobs .slots)) .status);
+      held = λ x. item (t .items) x .held;
+      readers = λ x j. has (item (t .items) x .readers) (slot-of j (t .jobs .slots));
+      writers = λ x j. has (item (t .items) x .writers) (slot-of j (t .jobs .slots));
+      edges = λ i j. has (row (t .jobs .edges) (slot-of j (t .jobs .slots))) (slot-of i (t .jobs .slots));
+      values = values;
+      room = room;
     }
 
 -- slot k is taken

@@ -2,7 +2,7 @@
 ghost use Rattle.scheduler.specs.Reading.{Sized, OneSlot, GivenOut, EdgesTaken, ReadersTaken, WritersTaken};
 use super::tables::Tables;
 
-pub mod calls;
+mod calls;
 
 // Everything of a hub but its store: which jobs are present, who holds, reads and writes each item, the
 // edges between the jobs and the next number.

@@ -12,8 +12,8 @@
 pub mod core;
 mod ending;
 mod opening;
+mod retiring;
+mod slots;
 mod stepping;
 mod sweeps;
-mod retiring;
-pub mod slots;
-pub mod tables;
+mod tables;

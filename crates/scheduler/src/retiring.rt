@@ -20,7 +20,12 @@ impl Tables {
         let committed = slots_with(&self.jobs.slots, SlotStatus::Committed);
         let running = slots_with(&self.jobs.slots, SlotStatus::Running);
         let keys = numbers(&self.jobs.slots);
-        next_free(&self.jobs.edges, &keys, union(running, committed), committed)
+        next_free(
+            &self.jobs.edges,
+            &keys,
+            union(running, committed),
+            committed,
+        )
     }
 
     // Takes out one job after another that may retire, and writes their numbers into the list, until it

@@ -20,7 +20,7 @@ pub struct Slot {
 }
 
 // Whether the slot is taken by the job.
-pub fn belongs(slot: &Slot, job: u32) -> bool
+pub(crate) fn belongs(slot: &Slot, job: u32) -> bool
     ensures { λ r. ⌜ r ≡ taken-by job (now (slot .entry)) ⌝ }
 {
     match slot.status {
@@ -31,7 +31,7 @@ pub fn belongs(slot: &Slot, job: u32) -> bool
 }
 
 // Whether no job has the slot.
-pub fn is_free(slot: &Slot) -> bool
+pub(crate) fn is_free(slot: &Slot) -> bool
     ensures { λ r. ⌜ r ≡ free (now (slot .entry)) ⌝ }
 {
     match slot.status {
@@ -42,7 +42,7 @@ pub fn is_free(slot: &Slot) -> bool
 }
 
 // The slot that belongs to the job, or 32 if none does.
-pub fn find(slots: &[Slot; 32], job: u32) -> usize
+pub(crate) fn find(slots: &[Slot; 32], job: u32) -> usize
     ensures { λ r. ⌜ r ≡ slot-of job (now (slots .entry)) ⌝ }
 {
     for k in 0..32 {
@@ -54,7 +54,7 @@ pub fn find(slots: &[Slot; 32], job: u32) -> usize
 }
 
 // The first free slot, or 32 if all are taken.
-pub fn find_free(slots: &[Slot; 32]) -> usize
+pub(crate) fn find_free(slots: &[Slot; 32]) -> usize
     ensures { λ r. ⌜ r ≡ first free (now (slots .entry)) ⌝ }
 {
     for k in 0..32 {
@@ -66,7 +66,7 @@ pub fn find_free(slots: &[Slot; 32]) -> usize
 }
 
 // Gives a slot to a job.
-pub fn settle(slot: &mut Slot, job: u32)
+pub(crate) fn settle(slot: &mut Slot, job: u32)
     ensures { λ _. ⌜ now (slot .exit) ≡ record { job = job; status = Running } ⌝ }
 {
     slot.job = job;
@@ -74,21 +74,21 @@ pub fn settle(slot: &mut Slot, job: u32)
 }
 
 // Takes a slot from its job.
-pub fn vacate(slot: &mut Slot)
+pub(crate) fn vacate(slot: &mut Slot)
     ensures { λ _. ⌜ now (slot .exit) ≡ record { job = now (slot .entry) .job; status = Free } ⌝ }
 {
     slot.status = SlotStatus::Free;
 }
 
 // Notes that the slot's job has committed.
-pub fn close(slot: &mut Slot)
+pub(crate) fn close(slot: &mut Slot)
     ensures { λ _. ⌜ now (slot .exit) ≡ record { job = now (slot .entry) .job; status = Committed } ⌝ }
 {
     slot.status = SlotStatus::Committed;
 }
 
 // Whether the slot says this.
-pub fn says(slot: &Slot, status: SlotStatus) -> bool
+pub(crate) fn says(slot: &Slot, status: SlotStatus) -> bool
     ensures { λ r. ⌜ r ≡ same-status (now (slot .entry) .status) status ⌝ }
 {
     match (slot.status, status) {
@@ -100,7 +100,7 @@ pub fn says(slot: &Slot, status: SlotStatus) -> bool
 }
 
 // The set of the slots that say this.
-pub fn slots_with(slots: &[Slot; 32], status: SlotStatus) -> u64
+pub(crate) fn slots_with(slots: &[Slot; 32], status: SlotStatus) -> u64
     ensures { λ r. ⌜ SlotsWith status (now (slots .entry)) r ⌝ }
 {
     let mut set = 0;
@@ -113,7 +113,7 @@ pub fn slots_with(slots: &[Slot; 32], status: SlotStatus) -> u64
 }
 
 // The numbers in the slots, free ones too.
-pub fn numbers(slots: &[Slot; 32]) -> [u32; 32]
+pub(crate) fn numbers(slots: &[Slot; 32]) -> [u32; 32]
     ensures { λ r. ⌜ r ≡ jobs (now (slots .entry)) ⌝ }
 {
     let mut numbers = [0; 32];

@@ -28,7 +28,9 @@ fn check_holder(held: Option<Holding>, job: u32) -> Result<(), Refusal>
             if holding.job == job {
                 Ok(())
             } else {
-                Err(Refusal::ItemHeld { holder: holding.job })
+                Err(Refusal::ItemHeld {
+                    holder: holding.job,
+                })
             }
         }
         None => Ok(()),

@@ -15,7 +15,7 @@ fn clear_row(row: u64, to: usize, slot: usize) -> u64
 }
 
 // Removes all edges from the slot and to it.
-pub fn clear_edges(rows: &mut [u64; 32], slot: usize)
+pub(crate) fn clear_edges(rows: &mut [u64; 32], slot: usize)
     ensures { λ _. ⌜ EdgesWithout slot (now (rows .entry)) (now (rows .exit)) ⌝ }
 {
     for to in 0..32 {
@@ -50,7 +50,7 @@ fn clear_item(item: ItemState, job: u32, slot: usize) -> ItemState
 }
 
 // Takes the job, whose slot this is, out of every item: it holds none, and has read and written none.
-pub fn clear_items(items: &mut [ItemState; 64], job: u32, slot: usize)
+pub(crate) fn clear_items(items: &mut [ItemState; 64], job: u32, slot: usize)
     ensures { λ _. ⌜ ItemsWithout job slot (now (items .entry)) (now (items .exit)) ⌝ }
 {
     for x in 0..64 {
@@ -69,7 +69,7 @@ fn release_item(item: ItemState, job: u32) -> ItemState
 }
 
 // Ends the job's holdings.
-pub fn release_items(items: &mut [ItemState; 64], job: u32)
+pub(crate) fn release_items(items: &mut [ItemState; 64], job: u32)
     ensures { λ _. ⌜ ItemsLetGo job (now (items .entry)) (now (items .exit)) ⌝ }
 {
     for x in 0..64 {

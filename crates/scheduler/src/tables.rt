@@ -4,9 +4,9 @@ ghost use mathlib.Core.List.{List};
 ghost use mathlib.Core.Path.{_≡_};
 ghost use Rattle.history.specs.Machine.{made};
 ghost use Rattle.scheduler.specs.Reading.{state, Sound};
-use history::holding::Holding;
 use super::slots::Slot;
 use super::slots::SlotStatus;
+use history::holding::Holding;
 
 // One item as the jobs see it: who holds it, and the slots of its present readers and writers.
 #[derive(Clone, Copy)]

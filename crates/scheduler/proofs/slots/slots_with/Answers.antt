@@ -13,8 +13,9 @@ pub loop-k-again : need.loop-k-again
 loop-k-again c =
     let p = λ (a : ℕ). same-status (slot (c .args .slots .now) a .status) (c .args .status) in
     elim (c .if-says .came) [
-      then-says w ↦ rw (w .set-is) (gathered-with p (c .loop-k .k) (c .loop-k .set) (w .with-set .result) (omega arith) (c .loop-k .inv) (sym (c .says .ensures) ∙ w .if-says .taken) (w .with-set .ensures))
-    | else-says w ↦ rw (w .set-is) (gathered-past p (c .loop-k .k) (c .loop-k .set) (c .loop-k .inv) (sym (c .says .ensures) ∙ w .if-says .left)) ]
+      | then-says w ↦ rw (w .set-is) (gathered-with p (c .loop-k .k) (c .loop-k .set) (w .with-set .result) (omega arith) (c .loop-k .inv) (sym (c .says .ensures) ∙ w .if-says .taken) (w .with-set .ensures))
+      | else-says w ↦ rw (w .set-is) (gathered-past p (c .loop-k .k) (c .loop-k .set) (c .loop-k .inv) (sym (c .says .ensures) ∙ w .if-says .left))
+    ]
 
 pub returns : need.returns
 returns c =

@@ -14,5 +14,6 @@ add-count c = omega (arith, c .loop-x .inv .0)
 
 pub loop-x-again : need.loop-x-again
 loop-x-again c = elim (c .if-is-held-by .came) [
-    then-is-held-by w ↦ (omega (arith, w .count-is, c .loop-x .inv .0), w .count-is ∙ count-next-in (c .args .self .now) (c .args .job) (c .loop-x .x) (c .loop-x .count) (c .loop-x .inv .1) (sym (c .is-held-by .ensures) ∙ w .if-is-held-by .taken))
-  | else-is-held-by w ↦ (omega (arith, w .count-is, c .loop-x .inv .0), w .count-is ∙ count-next-out (c .args .self .now) (c .args .job) (c .loop-x .x) (c .loop-x .count) (c .loop-x .inv .1) (sym (c .is-held-by .ensures) ∙ w .if-is-held-by .left)) ]
+  | then-is-held-by w ↦ (omega (arith, w .count-is, c .loop-x .inv .0), w .count-is ∙ count-next-in (c .args .self .now) (c .args .job) (c .loop-x .x) (c .loop-x .count) (c .loop-x .inv .1) (sym (c .is-held-by .ensures) ∙ w .if-is-held-by .taken))
+  | else-is-held-by w ↦ (omega (arith, w .count-is, c .loop-x .inv .0), w .count-is ∙ count-next-out (c .args .self .now) (c .args .job) (c .loop-x .x) (c .loop-x .count) (c .loop-x .inv .1) (sym (c .is-held-by .ensures) ∙ w .if-is-held-by .left))
+]

@@ -27,11 +27,11 @@ returns-then-closes-cycle c =
     let from = c .read-sources-from .result in
     let sources = c .read-sources-from .ensures in
     record {
-  sound = c .remove .ensures .sound;
-  reads = λ values room is val.
-      read-closes t j x served values room is k may _ (search-tells t (c .pre .0) j k (may .0 .0) (may .0 .1) x from false sources values room (c .closes-cycle .result) (c .closes-cycle .ensures) ∙ c .if-closes-cycle .taken)
-      (c .remove .ensures .removes values room);
-}
+      sound = c .remove .ensures .sound;
+      reads = λ values room is val.
+          read-closes t j x served values room is k may _ (search-tells t (c .pre .0) j k (may .0 .0) (may .0 .1) x from false sources values room (c .closes-cycle .result) (c .closes-cycle .ensures) ∙ c .if-closes-cycle .taken)
+          (c .remove .ensures .removes values room);
+    }
 
 pub returns : need.returns
 returns c =
@@ -45,9 +45,9 @@ returns c =
     let sources = c .read-sources-from .ensures in
     let low : x < 64 = omega (arith, may .1) in
     record {
-  sound = read-sound t (c .pre .0) j k (may .0 .0) (may .0 .1) x from (c .union .result) low (c .union .ensures) sources (c .with .result) (c .with .ensures);
-  reads = λ values room is val.
-      read-granted t j x served values room is k may _ (c .seen .result) (search-tells t (c .pre .0) j k (may .0 .0) (may .0 .1) x from false sources values room (c .closes-cycle .result) (c .closes-cycle .ensures) ∙ c .if-closes-cycle .left)
-      (c .seen .ensures ∙ ap (held-value (item (t .items) x .held)) (val (may .1)))
-      (read-state t (c .pre .0) j k (may .0 .0) (may .0 .1) x from (c .union .result) low (c .union .ensures) sources (c .with .result) (c .with .ensures) values room);
-}
+      sound = read-sound t (c .pre .0) j k (may .0 .0) (may .0 .1) x from (c .union .result) low (c .union .ensures) sources (c .with .result) (c .with .ensures);
+      reads = λ values room is val.
+          read-granted t j x served values room is k may _ (c .seen .result) (search-tells t (c .pre .0) j k (may .0 .0) (may .0 .1) x from false sources values room (c .closes-cycle .result) (c .closes-cycle .ensures) ∙ c .if-closes-cycle .left)
+          (c .seen .ensures ∙ ap (held-value (item (t .items) x .held)) (val (may .1)))
+          (read-state t (c .pre .0) j k (may .0 .0) (may .0 .1) x from (c .union .result) low (c .union .ensures) sources (c .with .result) (c .with .ensures) values room);
+    }

@@ -27,11 +27,11 @@ returns-then-closes-cycle c =
     let from = c .write-sources-from .result in
     let sources = c .write-sources-from .ensures in
     record {
-  sound = c .remove .ensures .sound;
-  writes = λ values room is.
-      write-closes t j x served values room is k may _ (c .args .value) (search-tells t (c .pre .0) j k (may .0 .0) (may .0 .1) x from true sources values room (c .closes-cycle .result) (c .closes-cycle .ensures) ∙ c .if-closes-cycle .taken)
-      (c .remove .ensures .removes values room);
-}
+      sound = c .remove .ensures .sound;
+      writes = λ values room is.
+          write-closes t j x served values room is k may _ (c .args .value) (search-tells t (c .pre .0) j k (may .0 .0) (may .0 .1) x from true sources values room (c .closes-cycle .result) (c .closes-cycle .ensures) ∙ c .if-closes-cycle .taken)
+          (c .remove .ensures .removes values room);
+    }
 
 pub returns : need.returns
 returns c =
@@ -45,8 +45,8 @@ returns c =
     let sources = c .write-sources-from .ensures in
     let low : x < 64 = omega (arith, may .1) in
     record {
-  sound = write-sound t (c .pre .0) j k (may .0 .0) (may .0 .1) x from (c .union .result) low (c .union .ensures) sources (c .args .value) (c .with .result) (c .with .ensures);
-  writes = λ values room is.
-      write-granted t j x served values room is k may _ (c .args .value) (search-tells t (c .pre .0) j k (may .0 .0) (may .0 .1) x from true sources values room (c .closes-cycle .result) (c .closes-cycle .ensures) ∙ c .if-closes-cycle .left)
-      (write-state t (c .pre .0) j k (may .0 .0) (may .0 .1) x from (c .union .result) low (c .union .ensures) sources (c .args .value) (c .with .result) (c .with .ensures) values room);
-}
+      sound = write-sound t (c .pre .0) j k (may .0 .0) (may .0 .1) x from (c .union .result) low (c .union .ensures) sources (c .args .value) (c .with .result) (c .with .ensures);
+      writes = λ values room is.
+          write-granted t j x served values room is k may _ (c .args .value) (search-tells t (c .pre .0) j k (may .0 .0) (may .0 .1) x from true sources values room (c .closes-cycle .result) (c .closes-cycle .ensures) ∙ c .if-closes-cycle .left)
+          (write-state t (c .pre .0) j k (may .0 .0) (may .0 .1) x from (c .union .result) low (c .union .ensures) sources (c .args .value) (c .with .result) (c .with .ensures) values room);
+    }
