@@ -119,7 +119,7 @@ used-front-from bytes n (suc k) w marks =
     used-front-from bytes (n + 1) k (omega arith) (below-more (λ i. mark-of bytes i ≡ 165) n marks (eqb-true (mark-of bytes n) 165 e))) (λ e.
     record { within = omega arith; marks = marks; stops = λ l. eqb-false (mark-of bytes n) 165 e })
 
--- the count of used records is of those from the front up to the first with no mark
+-- the count of used records keeps its rule
 pub used-front : (bytes : List ℕ) → UsedFront bytes (used-in bytes)
 used-front bytes = used-front-from bytes 0 (whole bytes) (omega arith) (λ i l. absurd (omega arith))
 

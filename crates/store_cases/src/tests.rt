@@ -1,3 +1,5 @@
+ghost use mathlib.Core.Path.{_≡_};
+ghost use Prim.Native.Nat.{_%_};
 use crate::front::put_front;
 use crate::front::put_then_get;
 use std::test::*;
@@ -135,4 +137,34 @@ fn generic_code_runs_over_both_stores() -> Result<(), Fail> {
     check_eq(refused, [None, Some(0)])?;
     check_eq([memory.room(), log.room()], [4294967295, 0])?;
     check_eq(words, [1, 2, 9, 7])
+}
+
+// Lends memory to a store, puts a value and answers what stands there when the store is gone.
+fn put_in_lent_memory(value: u32) -> u32
+    ensures { λ r. ⌜ r ≡ value ⌝ }
+{
+    let mut words = [0; 4];
+    {
+        let mut memory = MemoryStore::new(&mut words);
+        let _ = memory.put(1, value);
+    }
+    words[1]
+}
+
+// Lends bytes to a log, puts a value and answers the last byte of it when the log is gone.
+fn put_in_lent_bytes(value: u32) -> u8
+    ensures { λ r. ⌜ r ≡ value % 256 ⌝ }
+{
+    let mut bytes = [0; 8];
+    {
+        let mut log = LogStore::new(&mut bytes, 2);
+        let _ = log.put(1, value);
+    }
+    bytes[7]
+}
+
+#[test]
+fn the_lender_finds_what_was_put() -> Result<(), Fail> {
+    check_eq(put_in_lent_memory(77), 77)?;
+    check_eq(put_in_lent_bytes(0x0102), 2)
 }
