@@ -9,3 +9,4 @@ pub mod Invariant
 pub mod Turns
 pub mod Serializability
 pub mod Laws
+pub mod Examples

@@ -6,7 +6,7 @@ use Prim.Native.Nat.{ℕ, zero, suc}
 use lib.ListN.{replicate}
 use Rattle.graph.specs.Paths.{Distinct, Linked}
 use Rattle.trace.specs.declared.act.Act.{Act}
-use Rattle.trace.specs.declared.act.Act.the-variants.{Open, Read, Write, Commit}
+use Rattle.trace.specs.declared.act.Act.the-variants.{Open, Read, Write}
 use Rattle.history.specs.declared.refusal.Refusal.the-variants.{TableFull, NotPresent, ItemNotServed, ItemHeld, ClosesCycle, NoRoom}
 use Rattle.history.specs.Acts.{not-aborted}
 use Rattle.history.specs.Conflicts.{Edge, SerialOrder}
@@ -139,25 +139,36 @@ abbrev pub the-empty-trace-has-the-empty-order : Case
 the-empty-trace-has-the-empty-order = in-order [] []
 
 -- the last write hides the others, so some serial order has the same effect; none keeps the conflicts
-abbrev pub a-blind-write-mends-no-cycle : Case
-a-blind-write-mends-no-cycle =
-    in-cycle
-      (Open 1 ∷ Open 2 ∷ Open 3 ∷ Read 1 0 0 ∷ Write 2 0 2 ∷ Write 1 0 1 ∷ Write 3 0 3 ∷ Commit 1 ∷ Commit 2 ∷ Commit 3 ∷ [])
-      1 (2 ∷ [])
+abbrev pub blind : List Act
+blind =
+    Open 1
+    ∷ Open 2
+    ∷ Open 3
+    ∷ Read 1 0 0
+    ∷ Write 2 0 2
+    ∷ Write 1 0 1
+    ∷ Write 3 0 3
+    ∷ []
 
+abbrev pub a-blind-write-mends-no-cycle : Case
+a-blind-write-mends-no-cycle = in-cycle blind 1 (2 ∷ [])
+
+abbrev pub cases : List Case
+cases =
+    retires-by-edges-not-by-commits
+    ∷ reading-again-after-overwrite-is-refused
+    ∷ write-skew-is-refused
+    ∷ no-path-leads-through-an-aborted-job
+    ∷ two-writes-of-one-item-need-one-record
+    ∷ writes-of-two-items-need-two-records
+    ∷ a-hub-over-no-items-serves-none
+    ∷ a-full-table-takes-a-job-when-one-is-gone
+    ∷ a-job-sees-its-own-write-and-peek-does-not
+    ∷ none-retires-into-no-places
+    ∷ the-empty-trace-has-the-empty-order
+    ∷ a-blind-write-mends-no-cycle
+    ∷ []
+
+-- all worked examples hold
 abbrev pub WorkedExamples : Type 0
-WorkedExamples =
-    AllHold
-      (retires-by-edges-not-by-commits
-       ∷ reading-again-after-overwrite-is-refused
-       ∷ write-skew-is-refused
-       ∷ no-path-leads-through-an-aborted-job
-       ∷ two-writes-of-one-item-need-one-record
-       ∷ writes-of-two-items-need-two-records
-       ∷ a-hub-over-no-items-serves-none
-       ∷ a-full-table-takes-a-job-when-one-is-gone
-       ∷ a-job-sees-its-own-write-and-peek-does-not
-       ∷ none-retires-into-no-places
-       ∷ the-empty-trace-has-the-empty-order
-       ∷ a-blind-write-mends-no-cycle
-       ∷ [])
+WorkedExamples = AllHold cases
