@@ -28,11 +28,14 @@ plays s (u ∷ us) e =
     let c = u .call in
     let m = after-call s c (s .room - put-count s c) in
     let one : answer s c ≡ u .answer = cc in
-    let r = plays m us (cc) in
-    ( r .0
-    , ( m
-      , subst (λ (a : Answer). Steps s c a m) one (steps s c (s .room - put-count s c) (λ z. omega arith) (omega arith))
-      , r .1 ) )
+    let r = plays m us (cc) in (
+      r .0,
+      (
+        m,
+        subst (λ (a : Answer). Steps s c a m) one (steps s c (s .room - put-count s c) (λ z. omega arith) (omega arith)),
+        r .1,
+      ),
+    )
 
 -- what is to be evaluated of a case
 abbrev Evaluates : Case → Type 0
@@ -65,21 +68,22 @@ pub worked-examples : WorkedExamples
 unfolding play made rising those any jobs holdings path retirable opened has-read has-written put-all has-ended removed all-removed retiring refusal granted-answer granted-state refused-state answer after-call put-count
 worked-examples =
     all-hold cases
-      (refl
-       also refl
-       also refl
-       also refl
-       also refl
-       also refl
-       also refl
-       also refl
-       also refl
-       also refl
-       also record { distinct = tt; all = λ j k. absurd k; only = λ j h. absurd h; forward = tt }
-       also (((λ h. elim h [ inl e ↦ apart 1 2 tt e | inr k ↦ k ]), ((λ h. h), tt)), (one-two, (two-one, tt)))
-       also tt)
+    (refl
+    also refl
+    also refl
+    also refl
+    also refl
+    also refl
+    also refl
+    also refl
+    also refl
+    also refl
+    also record { distinct = tt; all = λ j k. absurd k; only = λ j h. absurd h; forward = tt }
+    also (((λ h. elim h [ inl e ↦ apart 1 2 tt e | inr k ↦ k ]), ((λ h. h), tt)), (one-two, (two-one, tt)))
+    also tt)
   where
     one-two : Edge not-aborted blind 1 2
     one-two = (tt, tt, inl (refl, inl (refl, (apart 1 2 tt, refl, tt))))
+
     two-one : Edge not-aborted blind 2 1
     two-one = (tt, tt, inr (inl (refl, inl (refl, (apart 2 1 tt, refl, tt)))))

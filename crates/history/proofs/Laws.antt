@@ -86,11 +86,11 @@ pub steps : (s : State) (c : Call) (left : ℕ) → (put-count s c ≡ 0 → lef
     → Steps s c (answer s c) (after-call s c left)
 steps s c left k l =
     let e = after-room s c left k in
-    record
-    { answers = refl
-    ; becomes = ap (λ (z : ℕ). after-call s c z) (sym e)
-    ; keeps-room = λ z. e ∙ k z
-    ; takes-room = subst (λ (z : ℕ). s .room ≤ z + put-count s c) (sym e) l
+    record {
+      answers = refl;
+      becomes = ap (λ (z : ℕ). after-call s c z) (sym e);
+      keeps-room = λ z. e ∙ k z;
+      takes-room = subst (λ (z : ℕ). s .room ≤ z + put-count s c) (sym e) l;
     }
 
 same-but-room : (s : State) (c : Call) (l m : ℕ) → but-room (granted-state s c l) ≡ but-room (granted-state s c m)
@@ -109,17 +109,17 @@ after-but-room s c l m = go (refusal s c)
   where
     go : (ρ : Option Refusal)
         → but-room (by-refusal ρ (granted-state s c l) (λ r. refused-state s c r))
-          ≡ but-room (by-refusal ρ (granted-state s c m) (λ r. refused-state s c r))
+        ≡ but-room (by-refusal ρ (granted-state s c m) (λ r. refused-state s c r))
     go None = same-but-room s c l m
     go (Some r) = refl
 
 pub one-outcome : (s : State) (c : Call) → OneOutcome s c
 one-outcome s c =
-    record
-    { some = (answer s c, after-call s c (s .room), steps s c (s .room) (λ e. refl) (omega arith))
-    ; same-answer = λ a b t u p q. p .answers ∙ sym (q .answers)
-    ; same-state = λ a b t u p q.
-        ap but-room (p .becomes) ∙ after-but-room s c (t .room) (u .room) ∙ sym (ap but-room (q .becomes))
+    record {
+      some = (answer s c, after-call s c (s .room), steps s c (s .room) (λ e. refl) (omega arith));
+      same-answer = λ a b t u p q. p .answers ∙ sym (q .answers);
+      same-state = λ a b t u p q.
+          ap but-room (p .becomes) ∙ after-but-room s c (t .room) (u .room) ∙ sym (ap but-room (q .becomes));
     }
 
 -- WHAT A REFUSAL CHANGES
@@ -210,40 +210,45 @@ conflicts-abort s t (peek x) q =
 
 -- what holds of a state that was reached
 reached-inv : (s : State) → Reached s → (opening : List ℕ) × (H : List Act) × (R : List ℕ) × Holds opening H R s
-reached-inv s (slots, first, room, opening, run, r) =
-    ( opening
-    , acts-of run
-    , retired-of run
-    , inv-run opening run [] [] (made slots first opening room) s (inv-made slots first room opening) r )
+reached-inv s (slots, first, room, opening, run, r) = (
+  opening,
+  acts-of run,
+  retired-of run,
+  inv-run opening run [] [] (made slots first opening room) s (inv-made slots first room opening) r,
+)
 
 module _ (s : State) (j x : ℕ) (w : Bool) where
   drawn-edge : (a b : ℕ) → Drawn (drawn s j x w) a b → StepEdge s j x w a b
   drawn-edge a b e =
-      elim (or-cases (s .edges a b) (eqb b j && draws-from s j x w a) e)
-      [ inl q ↦ inl (true-T (s .edges a b) q)
-      | inr q ↦
-          let p = and-parts (eqb b j) (draws-from s j x w a) q in
-          let o = and-parts (not (eqb a j)) (s .writers x a || w && s .readers x a) (p .1) in
-          inr
-            ( eqb-true b j (p .0)
-            , (λ k. true-not-false (not (eqb a j)) (o .0) (ap not (eq-eqb a j k)))
-            , elim (or-cases (s .writers x a) (w && s .readers x a) (o .1))
-              [ inl u ↦ inl (true-T (s .writers x a) u)
-              | inr u ↦
-                  let z = and-parts w (s .readers x a) u in
-                  inr (true-T w (z .0), true-T (s .readers x a) (z .1)) ] ) ]
+      elim (or-cases (s .edges a b) (eqb b j && draws-from s j x w a) e) [
+        | inl q ↦ inl (true-T (s .edges a b) q)
+        | inr q ↦
+            let p = and-parts (eqb b j) (draws-from s j x w a) q in
+            let o = and-parts (not (eqb a j)) (s .writers x a || w && s .readers x a) (p .1) in
+            inr (
+              eqb-true b j (p .0),
+              (λ k. true-not-false (not (eqb a j)) (o .0) (ap not (eq-eqb a j k))),
+              elim (or-cases (s .writers x a) (w && s .readers x a) (o .1)) [
+                | inl u ↦ inl (true-T (s .writers x a) u)
+                | inr u ↦
+                    let z = and-parts w (s .readers x a) u in
+                    inr (true-T w (z .0), true-T (s .readers x a) (z .1))
+              ],
+            )
+      ]
 
   edge-drawn : (a b : ℕ) → StepEdge s j x w a b → Drawn (drawn s j x w) a b
   edge-drawn a b (inl t) = or-left (s .edges a b) (eqb b j && draws-from s j x w a) (T-true (s .edges a b) t)
   edge-drawn a b (inr (e, n, m)) =
       or-right (s .edges a b) (eqb b j && draws-from s j x w a)
-        (and-from (eqb b j) (draws-from s j x w a) (eq-eqb b j e)
-          (and-from (not (eqb a j)) (s .writers x a || w && s .readers x a) (ap not (ne-eqb a j n))
-            (elim m
-             [ inl t ↦ or-left (s .writers x a) (w && s .readers x a) (T-true (s .writers x a) t)
-             | inr t ↦
-                 or-right (s .writers x a) (w && s .readers x a)
-                   (and-from w (s .readers x a) (T-true w (t .0)) (T-true (s .readers x a) (t .1))) ])))
+      (and-from (eqb b j) (draws-from s j x w a) (eq-eqb b j e)
+      (and-from (not (eqb a j)) (s .writers x a || w && s .readers x a) (ap not (ne-eqb a j n))
+      (elim m [
+        | inl t ↦ or-left (s .writers x a) (w && s .readers x a) (T-true (s .writers x a) t)
+        | inr t ↦
+            or-right (s .writers x a) (w && s .readers x a)
+            (and-from w (s .readers x a) (T-true w (t .0)) (T-true (s .readers x a) (t .1)))
+      ])))
 
   unbarred-free : (o : Option Holding) → s .held x ≡ o → FreeOr j o → (h : Holding) → s .held x ≡ Some h → h .job ≡ j
   unbarred-free _ e free h q = let z : _≡_ {A = ℕ} 0 1 = cc in absurd (omega arith)
@@ -262,24 +267,27 @@ module _ (s : State) (j x : ℕ) (w : Bool) where
     path-test : s .status j ≡ Status.running → Path (StepEdge s j x w) j j → closes-cycle s j x w ≡ true
     path-test e p =
         path-found (drawn s j x w) (jobs s) j j
-          (λ a b d.
-            lives-listed opening (λ i. fate i H) (accesses H) R s v a
-              (step-edges opening (λ i. fate i H) (accesses H) R s v j x 0 w
-                (runs opening (λ i. fate i H) (accesses H) R s v j e) .only a b d .0))
-          (path-map edge-drawn p)
+        (λ a b d.
+        lives-listed opening (λ i. fate i H) (accesses H) R s v a
+        (step-edges opening (λ i. fate i H) (accesses H) R s v j x 0 w
+        (runs opening (λ i. fate i H) (accesses H) R s v j e) .only a b d .0))
+        (path-map edge-drawn p)
 
     exact-test-at : (ρ : Option Refusal)
         → StepCases j (s .status j) (leb (served s) x) (s .held x) (closes-cycle s j x w) ρ
         → (ρ ≡ Some ClosesCycle) ↔ (Unbarred s j x × Path (StepEdge s j x w) j j)
-    exact-test-at _ (barred r e why) =
-        ( (λ q. let u : r ≡ ClosesCycle = cc in true-not-false (aborts r) (ap aborts u) e)
-        , λ u. absurd (not-barred why (u .0)) )
-    exact-test-at _ (closing e b f t) =
-        ( (λ q. (unbarred e b f, path-map drawn-edge (path-sound (drawn s j x w) (jobs s) j j t)))
-        , λ u. refl )
-    exact-test-at _ (granted e b f t) =
-        ( (λ q. let z : _≡_ {A = ℕ} 0 1 = cc in absurd (omega arith))
-        , λ u. true-not-false (closes-cycle s j x w) (path-test e (u .1)) t )
+    exact-test-at _ (barred r e why) = (
+      (λ q. let u : r ≡ ClosesCycle = cc in true-not-false (aborts r) (ap aborts u) e),
+      λ u. absurd (not-barred why (u .0)),
+    )
+    exact-test-at _ (closing e b f t) = (
+      (λ q. (unbarred e b f, path-map drawn-edge (path-sound (drawn s j x w) (jobs s) j j t))),
+      λ u. refl,
+    )
+    exact-test-at _ (granted e b f t) = (
+      (λ q. let z : _≡_ {A = ℕ} 0 1 = cc in absurd (omega arith)),
+      λ u. true-not-false (closes-cycle s j x w) (path-test e (u .1)) t,
+    )
 
   pub exact-test-for : (c : Call) (ρ : Option Refusal) → refusal s c ≡ ρ → Reached s
       → StepCases j (s .status j) (leb (served s) x) (s .held x) (closes-cycle s j x w) ρ
@@ -287,18 +295,20 @@ module _ (s : State) (j x : ℕ) (w : Bool) where
   unfolding answer
   exact-test-for c ρ e (r) cases a t q =
       let i = reached-inv s r in
-      let k = exact-test-at (i .0) (i .1) (i .2) (i .3) ρ cases in
-      ( (λ z. k .0 (sym e ∙ refused-means s t c ClosesCycle (subst (λ (b : Answer). Steps s c b t) z q) .0))
-      , λ u. q .answers ∙ ap (λ (o : Option Refusal). by-refusal o (granted-answer s c) (λ y. refused y)) (e ∙ k .1 u) )
+      let k = exact-test-at (i .0) (i .1) (i .2) (i .3) ρ cases in (
+        (λ z. k .0 (sym e ∙ refused-means s t c ClosesCycle (subst (λ (b : Answer). Steps s c b t) z q) .0)),
+        λ u. q .answers ∙ ap (λ (o : Option Refusal). by-refusal o (granted-answer s c) (λ y. refused y)) (e ∙ k .1 u),
+      )
 
 pub exact-test : ExactTest
 unfolding refusal
-exact-test s r j x =
-    ( exact-test-for s j x false (read j x) _ refl r
-        (step-cases j (s .status j) (leb (served s) x) (s .held x) (closes-cycle s j x false))
-    , λ v.
-        exact-test-for s j x true (write j x v) _ refl r
-          (step-cases j (s .status j) (leb (served s) x) (s .held x) (closes-cycle s j x true)) )
+exact-test s r j x = (
+  exact-test-for s j x false (read j x) _ refl r
+      (step-cases j (s .status j) (leb (served s) x) (s .held x) (closes-cycle s j x false)),
+  λ v.
+      exact-test-for s j x true (write j x v) _ refl r
+      (step-cases j (s .status j) (leb (served s) x) (s .held x) (closes-cycle s j x true)),
+)
 
 -- WHAT RETIRES
 
@@ -315,47 +325,49 @@ module _ (opening : List ℕ) (F : ℕ → Fate) (l : List Access) where
       let q = shown-committed (F j) (mem j R) (sym (v .statuses j) ∙ c) in
       let out : j ∈ R → ⊥ = λ h. true-not-false (mem j R) (∈-mem j R h) (q .1) in
       ∈-those (λ i. has-committed (s .status i) && not (any (λ k. s .edges k i) (jobs s))) j (jobs s)
-        (lives-listed opening F l R s v j (committed-kept (F j) (q .0), out))
-        (and-from (has-committed (s .status j)) (not (any (λ k. s .edges k j) (jobs s))) (ap has-committed c)
-          (not-from-false (any (λ k. s .edges k j) (jobs s))
-            (elim (cases-bool (any (λ k. s .edges k j) (jobs s)))
-             [ inl e ↦ let z = any-true (λ k. s .edges k j) (jobs s) e in absurd (n (z .0) (z .2)) | inr e ↦ e ])))
+      (lives-listed opening F l R s v j (committed-kept (F j) (q .0), out))
+      (and-from (has-committed (s .status j)) (not (any (λ k. s .edges k j) (jobs s))) (ap has-committed c)
+      (not-from-false (any (λ k. s .edges k j) (jobs s))
+      (elim (cases-bool (any (λ k. s .edges k j) (jobs s)))
+      [ inl e ↦ let z = any-true (λ k. s .edges k j) (jobs s) e in absurd (n (z .0) (z .2)) | inr e ↦ e ])))
 
   ascending-retirable : (s : State) → Ascending (retirable s)
   unfolding retirable jobs
   ascending-retirable s =
       ascending-those (λ i. has-committed (s .status i) && not (any (λ k. s .edges k i) (jobs s))) (jobs s)
-        (ascending-those (λ i. present (s .status i)) (rising 0 (s .next)) (ascending-rising 0 (s .next)))
+      (ascending-those (λ i. present (s .status i)) (rising 0 (s .next)) (ascending-rising 0 (s .next)))
 
   retirement : (n : ℕ) (R : List ℕ) (s : State) → Inv opening F l R s → Retirement n s (retiring n s)
   unfolding retiring
   retirement zero R s v = refl
   retirement (suc n) R s v =
       by-list (retirable s) refl
-        (λ j js e.
-          let m = listed-may R s v j (subst (λ (z : List ℕ). j ∈ z) (sym e) (inl refl)) in
-          retirement n (R ++ j ∷ []) (removed j s)
-            (inv-retired opening F l R s v j (m .0) (λ i k. m .1 i)))
+      (λ j js e.
+      let m = listed-may R s v j (subst (λ (z : List ℕ). j ∈ z) (sym e) (inl refl)) in
+      retirement n (R ++ j ∷ []) (removed j s)
+      (inv-retired opening F l R s v j (m .0) (λ i k. m .1 i)))
     where
       by-list : (js : List ℕ) → retirable s ≡ js
           → ((j : ℕ) (js : List ℕ) → retirable s ≡ j ∷ js → Retirement n (removed j s) (retiring n (removed j s)))
           → Retirement (suc n) s (retiring (suc n) s)
       by-list [] e k =
           subst (Retirement (suc n) s) (sym (retiring-none n s e))
-            (λ j m. subst (λ (z : List ℕ). j ∈ z) e (may-listed R s v j m))
+          (λ j m. subst (λ (z : List ℕ). j ∈ z) e (may-listed R s v j m))
       by-list (j ∷ js) e k =
-          subst (Retirement (suc n) s) (sym (retiring-some n s j js e))
-            ( listed-may R s v j (subst (λ (z : List ℕ). j ∈ z) (sym e) (inl refl))
-            , ( λ i m.
-                  first-smallest j js (subst Ascending e (ascending-retirable s)) i
-                    (subst (λ (z : List ℕ). i ∈ z) e (may-listed R s v i m)) )
-            , k j js e )
+          subst (Retirement (suc n) s) (sym (retiring-some n s j js e)) (
+            listed-may R s v j (subst (λ (z : List ℕ). j ∈ z) (sym e) (inl refl)),
+            (λ i m.
+                first-smallest j js (subst Ascending e (ascending-retirable s)) i
+                (subst (λ (z : List ℕ). i ∈ z) e (may-listed R s v i m))),
+            k j js e,
+          )
 
 pub retires-smallest : RetiresSmallest
 unfolding answer after-call refusal granted-answer granted-state
 retires-smallest s t n a r q =
-    let i = reached-inv s r in
-    ( retiring n s
-    , q .answers
-    , retirement (i .0) (λ j. fate j (i .1)) (accesses (i .1)) n (i .2) s (i .3)
-    , q .becomes )
+    let i = reached-inv s r in (
+      retiring n s,
+      q .answers,
+      retirement (i .0) (λ j. fate j (i .1)) (accesses (i .1)) n (i .2) s (i .3),
+      q .becomes,
+    )

@@ -48,8 +48,7 @@ Leads (a ∷ s) i j = ((a .job ≡ i) × Meets a j s) ⊎ Leads s i j
 abbrev pub Edge : Keep → List Act → Relation
 Edge keep H i j = Kept keep H i × Kept keep H j × Leads (accesses H) i j
 
--- an order of the jobs that count, and of no others, each once, in which no edge leads from a later
--- job to an earlier one
+-- an order of the jobs that count, and of no others, each once, in which every edge leads forward
 pub record SerialOrder (keep : Keep) (H : List Act) (order : List ℕ) : Type 0 where
   pub distinct : Distinct order
   pub all : (j : ℕ) → Kept keep H j → j ∈ order
