@@ -1,4 +1,5 @@
 pub mod Acts
+pub mod Arrangements
 pub mod Conflicts
 pub mod Serial
 pub mod Refusals
