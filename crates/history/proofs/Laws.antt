@@ -25,7 +25,9 @@ use Rattle.history.proofs.Lists.{true-not-false, T-true, true-T, mem, mem-∈,
 use Rattle.history.proofs.Paths.{Drawn, path-map, path-sound, path-found}
 use Rattle.history.proofs.Graphs.{Live, committed-kept}
 use Rattle.history.proofs.Values.{FreeOr, free, own}
-use Rattle.history.proofs.Invariant.{Inv, shown, shown-committed, runs, lives-listed, step-edges, inv-retired}
+use Rattle.history.proofs.Fates.{shown-committed}
+use Rattle.history.proofs.Invariant.{Inv, runs, lives-listed, step-edges}
+use Rattle.history.proofs.Changes.{inv-retired}
 use Rattle.history.proofs.Turns.{Holds, Barred, StepCases, barred, closing, granted, step-cases, retirable-means, retiring-none, retiring-some, inv-run, inv-made}
 
 -- EACH CALL HAS ONE OUTCOME

@@ -1,6 +1,8 @@
 pub mod Arrangements
 pub mod Blocks
+pub mod Changes
 pub mod Examples
+pub mod Fates
 pub mod Graphs
 pub mod Invariant
 pub mod Laws

@@ -30,7 +30,8 @@ use Rattle.history.proofs.Replay.{Replay, kept, ByJobs, in-order-kept, leads-k
 use Rattle.history.proofs.Records.{Occurs, Did, did-wrote, leads-more, met-did, fate-more, accesses-join}
 use Rattle.history.proofs.Graphs.{Among, Live}
 use Rattle.history.proofs.Values.{laid, FreeOr, free, own}
-use Rattle.history.proofs.Invariant.{Inv, shown, not-mem, runs, runs-back, lives-listed, known-did, step, cycle-found, cycle-there}
+use Rattle.history.proofs.Fates.{shown, not-mem, known-did}
+use Rattle.history.proofs.Invariant.{Inv, runs, runs-back, lives-listed, step, cycle-found, cycle-there}
 use Rattle.history.proofs.Turns.{Holds, Barred, StepCases, barred, closing, granted, step-cases, inv-run, inv-made}
 
 committed-fate : (f : Fate) → T (is-committed f) → f ≡ Fate.committed

@@ -27,7 +27,9 @@ use Rattle.history.proofs.Replay.{kept}
 use Rattle.history.proofs.Records.{fate-more, accesses-join}
 use Rattle.history.proofs.Graphs.{Among, Live}
 use Rattle.history.proofs.Values.{FreeOr, free, own}
-use Rattle.history.proofs.Invariant.{Inv, shown, runs, lives-listed, step, inv-opened, inv-ended, inv-aborted, inv-retired, inv-read, inv-written}
+use Rattle.history.proofs.Fates.{shown}
+use Rattle.history.proofs.Invariant.{Inv, runs, lives-listed, step}
+use Rattle.history.proofs.Changes.{inv-opened, inv-ended, inv-aborted, inv-retired, inv-read, inv-written}
 
 -- RETIRING
 
@@ -200,7 +202,7 @@ module _ (opening : List ℕ) (H : List Act) (R : List ℕ) (st : State) where
     by-commit j left Status.running e true = unmoved v
     by-commit j left Status.running e false =
         none-retired (H ++ Commit j ∷ []) _
-        (quietly (Commit j) R _ refl (inv-ended opening (λ i. fate i H) (accesses H) R st v j left (running j e)))
+        (quietly (Commit j) R _ refl (inv-ended opening (λ i. fate i H) (accesses H) R st v j (running j e) left))
 
     by-abort : (j left : ℕ) (σ : Status) → st .status j ≡ σ → Kept-by (abort j) left (not-running σ)
     unfolding granted-answer granted-state refused-state
