@@ -28,7 +28,8 @@ use Rattle.history.proofs.Values.{FreeOr, free, own}
 use Rattle.history.proofs.Fates.{shown-committed}
 use Rattle.history.proofs.Invariant.{Inv, runs, lives-listed, step-edges}
 use Rattle.history.proofs.Changes.{inv-retired}
-use Rattle.history.proofs.Turns.{Holds, Barred, StepCases, barred, closing, granted, step-cases, retirable-means, retiring-none, retiring-some, inv-run, inv-made}
+use Rattle.history.proofs.Turns.{Holds, Barred, StepCases, barred, closing, granted, step-cases, inv-run, inv-made}
+use Rattle.history.proofs.Retiring.{retirable-means, ∈-retirable, retirable-ascending, retiring-none, retiring-some}
 
 -- EACH CALL HAS ONE OUTCOME
 
@@ -322,22 +323,10 @@ module _ (opening : List ℕ) (F : ℕ → Fate) (l : List Access) where
       (m .1, λ i e. m .2 i (lives-listed opening F l R s v i (v .drawing .only i j e .0)) e)
 
   may-listed : (R : List ℕ) (s : State) → Inv opening F l R s → (j : ℕ) → MayRetire s j → j ∈ retirable s
-  unfolding retirable
   may-listed R s v j (c, n) =
       let q = shown-committed (F j) (mem j R) (sym (v .statuses j) ∙ c) in
       let out : j ∈ R → ⊥ = λ h. true-not-false (mem j R) (∈-mem j R h) (q .1) in
-      ∈-those (λ i. has-committed (s .status i) && not (any (λ k. s .edges k i) (jobs s))) j (jobs s)
-      (lives-listed opening F l R s v j (committed-kept (F j) (q .0), out))
-      (and-from (has-committed (s .status j)) (not (any (λ k. s .edges k j) (jobs s))) (ap has-committed c)
-      (not-from-false (any (λ k. s .edges k j) (jobs s))
-      (elim (cases-bool (any (λ k. s .edges k j) (jobs s)))
-      [ inl e ↦ let z = any-true (λ k. s .edges k j) (jobs s) e in absurd (n (z .0) (z .2)) | inr e ↦ e ])))
-
-  ascending-retirable : (s : State) → Ascending (retirable s)
-  unfolding retirable jobs
-  ascending-retirable s =
-      ascending-those (λ i. has-committed (s .status i) && not (any (λ k. s .edges k i) (jobs s))) (jobs s)
-      (ascending-those (λ i. present (s .status i)) (rising 0 (s .next)) (ascending-rising 0 (s .next)))
+      ∈-retirable s j (lives-listed opening F l R s v j (committed-kept (F j) (q .0), out)) c (λ i h. n i)
 
   retirement : (n : ℕ) (R : List ℕ) (s : State) → Inv opening F l R s → Retirement n s (retiring n s)
   unfolding retiring
@@ -359,7 +348,7 @@ module _ (opening : List ℕ) (F : ℕ → Fate) (l : List Access) where
           subst (Retirement (suc n) s) (sym (retiring-some n s j js e)) (
             listed-may R s v j (subst (λ (z : List ℕ). j ∈ z) (sym e) (inl refl)),
             (λ i m.
-                first-smallest j js (subst Ascending e (ascending-retirable s)) i
+                first-smallest j js (subst Ascending e (retirable-ascending s)) i
                 (subst (λ (z : List ℕ). i ∈ z) e (may-listed R s v i m))),
             k j js e,
           )

@@ -11,6 +11,7 @@ pub mod Marks
 pub mod Paths
 pub mod Records
 pub mod Replay
+pub mod Retiring
 pub mod Serializability
 pub mod Turns
 pub mod Values

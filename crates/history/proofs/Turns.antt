@@ -22,73 +22,15 @@ use Rattle.history.specs.Acts.{Fate, after, fate}
 use Rattle.history.specs.Conflicts.{Access, accesses}
 use Rattle.history.specs.Machine.{State, Status, made, rising, those, any, jobs, served, seen, closes-cycle, retirable, has-committed, removed, all-removed, retiring, Call, begin, read, write, commit, abort, retire, peek, Answer, answered, done, wrote, refused, _else_, refuse-if, not-running, not-served, held-by-another, refusal, granted-answer, granted-state, refused-state, by-refusal, answer, after-call, Steps}
 use Rattle.history.specs.Runs.{Turn, Runs, acts, granted-act, refused-acts, acts-of, retired-by, retired-of}
-use Rattle.history.proofs.Lists.{true-not-false, those-∈, true-any, mem}
+use Rattle.history.proofs.Lists.{true-not-false, mem}
 use Rattle.history.proofs.Replay.{kept}
 use Rattle.history.proofs.Records.{fate-more, accesses-join}
 use Rattle.history.proofs.Graphs.{Among, Live}
 use Rattle.history.proofs.Values.{FreeOr, free, own}
 use Rattle.history.proofs.Fates.{shown}
 use Rattle.history.proofs.Invariant.{Inv, runs, lives-listed, step}
-use Rattle.history.proofs.Changes.{inv-opened, inv-ended, inv-aborted, inv-retired, inv-read, inv-written}
-
--- RETIRING
-
-committed-status : (σ : Status) → has-committed σ ≡ true → σ ≡ Status.committed
-committed-status Status.absent e = true-not-false false e refl
-committed-status Status.running e = true-not-false false e refl
-committed-status Status.committed e = refl
-
-not-true : (b : Bool) → not b ≡ true → b ≡ false
-not-true true e = true-not-false false e refl
-not-true false e = refl
-
--- what may retire is committed, and no present job leads into it
-pub retirable-means : (st : State) (j : ℕ) → j ∈ retirable st
-    → (j ∈ jobs st) × (st .status j ≡ Status.committed) × ((i : ℕ) → i ∈ jobs st → st .edges i j ≡ true → ⊥)
-unfolding retirable
-retirable-means st j h =
-    let q = those-∈ (λ i. has-committed (st .status i) && not (any (λ k. st .edges k i) (jobs st))) j (jobs st) h in
-    let p = and-parts (has-committed (st .status j)) (not (any (λ k. st .edges k j) (jobs st))) (q .1) in (
-      q .0,
-      committed-status (st .status j) (p .0),
-      λ i k e.
-          true-not-false (any (λ k. st .edges k j) (jobs st)) (true-any (λ k. st .edges k j) i (jobs st) k e)
-          (not-true (any (λ k. st .edges k j) (jobs st)) (p .1)),
-    )
-
-pub retiring-none : (n : ℕ) (st : State) → retirable st ≡ [] → retiring (suc n) st ≡ []
-unfolding retiring
-retiring-none n st e = rw (e, retiring)
-
-pub retiring-some : (n : ℕ) (st : State) (j : ℕ) (js : List ℕ) → retirable st ≡ j ∷ js
-    → retiring (suc n) st ≡ j ∷ retiring n (removed j st)
-unfolding retiring
-retiring-some n st j js e = rw (e, retiring)
-
-pub inv-retiring : (opening : List ℕ) (F : ℕ → Fate) (s : List Access) (n : ℕ) (R : List ℕ) (st : State)
-    → Inv opening F s R st → Inv opening F s (R ++ retiring n st) (all-removed (retiring n st) st)
-unfolding retiring all-removed
-inv-retiring opening F s zero R st v = subst (λ (Q : List ℕ). Inv opening F s Q st) (sym (append-nil R)) v
-inv-retiring opening F s (suc n) R st v =
-    by-list (retirable st) refl
-    (λ j js e.
-    let m = retirable-means st j (subst (λ (l : List ℕ). j ∈ l) (sym e) (inl refl)) in
-    inv-retiring opening F s n (R ++ j ∷ []) (removed j st)
-    (inv-retired opening F s R st v j (m .1) (λ i l. m .2 i (lives-listed opening F s R st v i l))))
-  where
-    Goal : List ℕ → Type 0
-    Goal js = Inv opening F s (R ++ js) (all-removed js st)
-
-    by-list : (l : List ℕ) → retirable st ≡ l
-        → ((j : ℕ) (js : List ℕ) → retirable st ≡ j ∷ js
-        → Inv opening F s ((R ++ j ∷ []) ++ retiring n (removed j st)) (all-removed (retiring n (removed j st)) (removed j st)))
-        → Goal (retiring (suc n) st)
-    by-list [] e k =
-        subst Goal (sym (retiring-none n st e)) (subst (λ (Q : List ℕ). Inv opening F s Q st) (sym (append-nil R)) v)
-    by-list (j ∷ js) e k =
-        subst Goal (sym (retiring-some n st j js e))
-        (subst (λ (Q : List ℕ). Inv opening F s Q (all-removed (retiring n (removed j st)) (removed j st)))
-        (append-assoc R (j ∷ []) (retiring n (removed j st))) (k j js e))
+use Rattle.history.proofs.Changes.{inv-opened, inv-ended, inv-aborted, inv-read, inv-written}
+use Rattle.history.proofs.Retiring.{inv-retiring}
 
 -- WHY A STEP IS REFUSED
 
