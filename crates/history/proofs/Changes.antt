@@ -1,9 +1,9 @@
 -- Each change of the state keeps what holds of the states that a run comes to.
 use mathlib.Core.Path.{_≡_, refl, sym, _∙_, ap, subst}
-use mathlib.Core.Logic.{_⊎_, inl, inr}
+use mathlib.Core.Logic.{inl, inr}
 use mathlib.Core.Bool.{Bool, true, false, cond, _||_}
 use mathlib.Core.List.{List, [], _∷_, _++_}
-use Prim.Native.Nat.{ℕ, suc, min, _<_, _≤_}
+use Prim.Native.Nat.{ℕ, min, _<_, _≤_}
 use native.Mathlib.Nat.{le-refl}
 use native.Mathlib.Omega.{arith}
 use lib.Dec.{T, eqb}
@@ -15,7 +15,7 @@ use Rattle.graph.specs.Paths.{_∈_}
 use Rattle.history.specs.declared.holding.Holding.{Holding}
 use Rattle.history.specs.Acts.{Fate, not-aborted}
 use Rattle.history.specs.Conflicts.{Access}
-use Rattle.history.specs.Machine.{State, Status, served, holds, holdings, seen, closes-cycle, put-at, let-go, opened, has-read, has-written, put-all, has-ended, removed}
+use Rattle.history.specs.Machine.{State, Status, served, holds, holdings, seen, closes-cycle, put-at, let-go, opened, has-read, has-written, has-ended, removed}
 use Rattle.history.proofs.Lists.{true-not-false, mem, ∈-mem, ∈-dec, ∈-left, ∈-right, ∈-split}
 use Rattle.history.proofs.Records.{Occurs, Did, did-old, did-new}
 use Rattle.history.proofs.Marks.{marked-removed, edged-removed, marked-step, marked-other}
@@ -33,8 +33,8 @@ module _ (opening : List ℕ) (F : ℕ → Fate) (s : List Access) (R : List ℕ
   alike-opened : (i : ℕ) → Occurs i s → not-aborted (becomes F (st .next) Fate.running i) ≡ not-aborted (F i)
   alike-opened i o =
       ap not-aborted
-        (becomes-old F (st .next) Fate.running i
-          (λ e. known-occurs F (served st) i s (v .known) o (ap F e ∙ new-unopened)))
+      (becomes-old F (st .next) Fate.running i
+      (λ e. known-occurs F (served st) i s (v .known) o (ap F e ∙ new-unopened)))
 
   pub inv-opened : Inv opening (becomes F (st .next) Fate.running) s R (opened st)
   unfolding opened shown
@@ -54,10 +54,10 @@ module _ (opening : List ℕ) (F : ℕ → Fate) (s : List Access) (R : List ℕ
             (becomes-keeps F n Fate.running Fate.unopened Fate.running new-unopened unopened-running (h .job) (q .0), q .1);
         graph =
             alike-graph opening F s R st v G alike-opened
-              (becomes-keeps F n Fate.running Fate.unopened Fate.committed new-unopened unopened-committed);
+            (becomes-keeps F n Fate.running Fate.unopened Fate.committed new-unopened unopened-committed);
         plays =
             plays-weaken opening F s (st .held) (st .values) (v .plays) G
-              (counts-before F n Fate.running Fate.unopened new-unopened unopened-committed unopened-aborted);
+            (counts-before F n Fate.running Fate.unopened new-unopened unopened-committed unopened-aborted);
       }
 
   -- A JOB THAT RUNS ENDS
@@ -85,9 +85,10 @@ module _ (opening : List ℕ) (F : ℕ → Fate) (s : List Access) (R : List ℕ
 
     alike-ended : (i : ℕ) → Occurs i s → not-aborted (becomes F j Fate.committed i) ≡ not-aborted (F i)
     alike-ended i o =
-        elim (cases-eq i j)
-        [ inl q ↦ ap not-aborted (becomes-new F j Fate.committed i q) ∙ sym (ap not-aborted (ap F q ∙ e))
-        | inr d ↦ ap not-aborted (becomes-old F j Fate.committed i d) ]
+        elim (cases-eq i j) [
+          | inl q ↦ ap not-aborted (becomes-new F j Fate.committed i q) ∙ sym (ap not-aborted (ap F q ∙ e))
+          | inr d ↦ ap not-aborted (becomes-old F j Fate.committed i d)
+        ]
 
     status-ended : Status.committed ≡ shown Fate.committed (mem j R)
     unfolding shown
@@ -105,24 +106,25 @@ module _ (opening : List ℕ) (F : ℕ → Fate) (s : List Access) (R : List ℕ
           statuses = statuses-become F j Fate.committed R (st .status) Status.committed (v .statuses) status-ended;
           known =
               subst (λ (z : ℕ). Known G (min 64 z) s) (sym same-long)
-                (known-becomes F j Fate.committed (λ q. unopened-committed (sym q)) (served st) s (v .known));
+              (known-becomes F j Fate.committed (λ q. unopened-committed (sym q)) (served st) s (v .known));
           reading = alike-reading opening F s R st v G alike-ended;
           writing = alike-writing opening F s R st v G alike-ended;
           drawing = alike-drawing opening F s R st v G alike-ended;
           holding = held-still Fate.committed;
           graph =
               alike-graph opening F s R st v G alike-ended
-                (becomes-keeps F j Fate.committed Fate.running Fate.committed e running-committed);
+              (becomes-keeps F j Fate.committed Fate.running Fate.committed e running-committed);
           plays =
               plays-commit opening F G s (st .held) (st .values) j (v .plays) (counts-still Fate.committed)
-                (becomes-new F j Fate.committed j refl) (λ x. held-served x (st .held x) refl);
+              (becomes-new F j Fate.committed j refl) (λ x. held-served x (st .held x) refl);
         }
 
     kept-before : (i : ℕ) → T (not-aborted (becomes F j Fate.aborted i)) → T (not-aborted (F i)) × (i ≡ j → ⊥)
     kept-before i t =
-        elim (cases-eq i j)
-        [ inl q ↦ absurd (subst (λ (f : Fate). T (not-aborted f)) (becomes-new F j Fate.aborted i q) t)
-        | inr d ↦ (subst (λ (f : Fate). T (not-aborted f)) (becomes-old F j Fate.aborted i d) t, d) ]
+        elim (cases-eq i j) [
+          | inl q ↦ absurd (subst (λ (f : Fate). T (not-aborted f)) (becomes-new F j Fate.aborted i q) t)
+          | inr d ↦ (subst (λ (f : Fate). T (not-aborted f)) (becomes-old F j Fate.aborted i d) t, d)
+        ]
 
     lives-on : (i : ℕ) → Live F R i → (i ≡ j → ⊥) → Live (becomes F j Fate.aborted) R i
     lives-on i l d = (subst (λ (f : Fate). T (not-aborted f)) (sym (becomes-old F j Fate.aborted i d)) (l .0), l .1)
@@ -146,11 +148,11 @@ module _ (opening : List ℕ) (F : ℕ → Fate) (s : List Access) (R : List ℕ
           holding = held-still Fate.aborted;
           graph =
               retired-weaken F G s s R (v .graph)
-                (becomes-keeps F j Fate.aborted Fate.running Fate.committed e running-committed)
-                (λ a b q. (kept-before a (q .0) .0, kept-before b (q .1) .0, q .2));
+              (becomes-keeps F j Fate.aborted Fate.running Fate.committed e running-committed)
+              (λ a b q. (kept-before a (q .0) .0, kept-before b (q .1) .0, q .2));
           plays =
               plays-abort opening F G s (st .held) (st .values) j (v .plays) (counts-still Fate.aborted)
-                (becomes-new F j Fate.aborted j refl);
+              (becomes-new F j Fate.aborted j refl);
         }
 
   -- A COMMITTED JOB THAT NO EDGE LEADS INTO RETIRES
@@ -177,14 +179,15 @@ module _ (opening : List ℕ) (F : ℕ → Fate) (s : List Access) (R : List ℕ
     statuses-retired : (i : ℕ) → put-at j Status.absent (st .status) i ≡ shown (F i) (mem i (R ++ j ∷ []))
     unfolding shown
     statuses-retired i =
-        elim (cases-eq i j)
-        [ inl q ↦
-            put-at-same j Status.absent (st .status) i q
-            ∙ sym (ap (λ (f : Fate). shown f (mem i (R ++ j ∷ []))) (ap F q ∙ committed)
-                ∙ ap (λ (b : Bool). cond b Status.absent Status.committed) (∈-mem i (R ++ j ∷ []) (∈-right i R (j ∷ []) (inl q))))
-        | inr d ↦
-            put-at-other j Status.absent (st .status) i d ∙ v .statuses i
-            ∙ ap (λ (b : Bool). shown (F i) b) (mem-more i j R d) ]
+        elim (cases-eq i j) [
+          | inl q ↦
+              put-at-same j Status.absent (st .status) i q
+              ∙ sym (ap (λ (f : Fate). shown f (mem i (R ++ j ∷ []))) (ap F q ∙ committed)
+              ∙ ap (λ (b : Bool). cond b Status.absent Status.committed) (∈-mem i (R ++ j ∷ []) (∈-right i R (j ∷ []) (inl q))))
+          | inr d ↦
+              put-at-other j Status.absent (st .status) i d ∙ v .statuses i
+              ∙ ap (λ (b : Bool). shown (F i) b) (mem-more i j R d)
+        ]
 
     holds-nothing : (x : ℕ) (o : Option Holding) → st .held x ≡ o → holds j o ≡ false
     holds-nothing x None p = refl
@@ -206,13 +209,14 @@ module _ (opening : List ℕ) (F : ℕ → Fate) (s : List Access) (R : List ℕ
           holding = λ x h q. v .holding x h (let-go-some j (st .held x) h q .0);
           graph =
               retired-more F s R j (v .graph) committed not-yet
-                (λ i a.
-                  elim (∈-dec i R)
-                  [ inl h ↦ h
-                  | inr n ↦ absurd (free i (a .0, n) (v .drawing .all i j (a .0, n) (a .1, not-yet) (a .2))) ]);
+              (λ i a.
+              elim (∈-dec i R) [
+                | inl h ↦ h
+                | inr n ↦ absurd (free i (a .0, n) (v .drawing .all i j (a .0, n) (a .1, not-yet) (a .2)))
+              ]);
           plays =
               plays-retire opening F F s (st .held) (st .values) j (v .plays) (λ k q. q)
-                (λ x. holds-nothing x (st .held x) refl);
+              (λ x. holds-nothing x (st .held x) refl);
         }
 
   -- A STEP IS GRANTED

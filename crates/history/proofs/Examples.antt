@@ -1,15 +1,15 @@
 -- The worked examples, evaluated.
-use mathlib.Core.Path.{_≡_, refl, sym, _∙_, ap, subst}
-use mathlib.Core.Logic.{_⊎_, inl, inr}
-use mathlib.Core.List.{List, [], _∷_, _++_, map}
-use Prim.Native.Nat.{ℕ, _+_, _-_, _≤_}
+use mathlib.Core.Path.{_≡_, refl, sym, subst}
+use mathlib.Core.Logic.{inl, inr}
+use mathlib.Core.List.{List, [], _∷_, map}
+use Prim.Native.Nat.{ℕ, _-_}
 use native.Mathlib.Omega.{arith}
 use mathlib.Core.Bool.{Bool, not}
 use lib.Dec.{T, eqb, T-not}
 use Rattle.std.proofs.shelf.Tests.{eq-eqb}
 use Rattle.history.specs.Acts.{not-aborted}
 use Rattle.history.specs.Conflicts.{Edge}
-use Rattle.history.specs.Machine.{State, made, rising, those, any, jobs, holdings, path, retirable, opened, has-read, has-written, put-all, has-ended, removed, all-removed, retiring, Call, begin, read, write, commit, abort, retire, peek, Answer, refusal, granted-answer, granted-state, refused-state, answer, after-call, put-count, Steps}
+use Rattle.history.specs.Machine.{State, made, rising, those, any, jobs, holdings, path, retirable, opened, has-read, has-written, put-all, has-ended, removed, all-removed, retiring, Call, Answer, refusal, granted-answer, granted-state, refused-state, answer, after-call, put-count, Steps}
 use Rattle.history.specs.Runs.{Turn, Runs}
 use Rattle.history.specs.Cases.{Case, played, in-order, in-cycle, Holds, AllHold, blind, cases, WorkedExamples}
 use Rattle.history.proofs.Laws.{steps}

@@ -1,7 +1,7 @@
 -- What became of a job, the status that the machine shows of it, and a record in which the fate of one
 -- job changes.
 use mathlib.Core.Path.{_≡_, refl, sym, _∙_, ap, subst}
-use mathlib.Core.Logic.{_⊎_, inl, inr}
+use mathlib.Core.Logic.{inl, inr}
 use mathlib.Core.Bool.{Bool, true, false, cond}
 use mathlib.Core.List.{List, [], _∷_, _++_}
 use Prim.Native.Nat.{ℕ, _<_}
@@ -144,11 +144,12 @@ module _ (F : ℕ → Fate) (n : ℕ) (f : Fate) where
   pub statuses-become : (R : List ℕ) (status : ℕ → Status) (σ : Status) → ((j : ℕ) → status j ≡ shown (F j) (mem j R))
       → σ ≡ shown f (mem n R) → (j : ℕ) → put-at n σ status j ≡ shown (becomes F n f j) (mem j R)
   statuses-become R status σ before now j =
-      elim (cases-eq j n)
-      [ inl e ↦
-          put-at-same n σ status j e ∙ now
-          ∙ sym (ap (λ (i : ℕ). shown f (mem i R)) e)
-          ∙ sym (ap (λ (g : Fate). shown g (mem j R)) (becomes-new j e))
-      | inr d ↦
-          put-at-other n σ status j d ∙ before j
-          ∙ sym (ap (λ (g : Fate). shown g (mem j R)) (becomes-old j d)) ]
+      elim (cases-eq j n) [
+        | inl e ↦
+            put-at-same n σ status j e ∙ now
+            ∙ sym (ap (λ (i : ℕ). shown f (mem i R)) e)
+            ∙ sym (ap (λ (g : Fate). shown g (mem j R)) (becomes-new j e))
+        | inr d ↦
+            put-at-other n σ status j d ∙ before j
+            ∙ sym (ap (λ (g : Fate). shown g (mem j R)) (becomes-old j d))
+      ]

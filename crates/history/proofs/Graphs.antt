@@ -3,7 +3,7 @@
 -- is exact and no granted step closes a cycle.
 use mathlib.Core.Path.{_≡_, refl, sym, _∙_, ap, subst}
 use mathlib.Core.Logic.{_⊎_, inl, inr}
-use mathlib.Core.Bool.{Bool, true, false}
+use mathlib.Core.Bool.{Bool}
 use mathlib.Core.List.{List, [], _∷_, _++_}
 use Prim.Native.Nat.{ℕ}
 use native.Mathlib.Omega.{arith}
@@ -11,9 +11,9 @@ use lib.Dec.{T}
 use Rattle.graph.specs.Paths.{Relation, Path, Cycle, _∈_, Distinct, Forward}
 use Rattle.history.specs.Acts.{Fate, not-aborted}
 use Rattle.history.specs.Conflicts.{Access, Leads}
-use Rattle.history.proofs.Lists.{∈-split, ∈-left, ∈-right, forward-weaken, forward-join, distinct-join}
+use Rattle.history.proofs.Lists.{∈-split, ∈-left, forward-weaken, forward-join, distinct-join}
 use Rattle.history.proofs.Paths.{Drawn, path-map, cycle-by-new, path-stays}
-use Rattle.history.proofs.Records.{leads-more, Met}
+use Rattle.history.proofs.Records.{leads-more}
 use Rattle.history.proofs.Marks.{Edged}
 
 -- the conflict graph, by what became of each job

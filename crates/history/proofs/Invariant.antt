@@ -1,7 +1,7 @@
 -- What holds of every state that a run comes to, what it answers of a state, and that a step of a job
 -- that runs is tested exactly.
-use mathlib.Core.Path.{_≡_, refl, sym, _∙_, ap, subst}
-use mathlib.Core.Logic.{_⊎_, inl, inr}
+use mathlib.Core.Path.{_≡_, sym, _∙_, ap, subst}
+use mathlib.Core.Logic.{inl, inr}
 use mathlib.Core.Bool.{Bool, true, false}
 use mathlib.Core.List.{List, [], _∷_, _++_}
 use Prim.Native.Nat.{ℕ, _<_, _≤_}
@@ -87,9 +87,9 @@ module _ (opening : List ℕ) (F : ℕ → Fate) (s : List Access) (R : List ℕ
     pub alike-graph : ((j : ℕ) → F j ≡ Fate.committed → G j ≡ Fate.committed) → Retired G s R
     alike-graph stay =
         retired-weaken F G s s R (v .graph) stay
-          (λ i j e.
-            let o = leads-occurs s i j (e .2) in
-            (subst T (alike i (o .0)) (e .0), subst T (alike j (o .1)) (e .1), e .2))
+        (λ i j e.
+        let o = leads-occurs s i j (e .2) in
+        (subst T (alike i (o .0)) (e .0), subst T (alike j (o .1)) (e .1), e .2))
 
   -- A STEP OF A JOB THAT RUNS
 
@@ -120,4 +120,3 @@ module _ (opening : List ℕ) (F : ℕ → Fate) (s : List Access) (R : List ℕ
 
     pub step-known : x < served st → Known F (served st) (s ++ step j x val w ∷ [])
     step-known l = known-more F (served st) s (step j x val w) (λ q. unopened-running (sym q ∙ e)) l (v .known)
-

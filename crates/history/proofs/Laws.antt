@@ -1,13 +1,13 @@
 -- The laws of the machine.
 use mathlib.Core.Path.{_≡_, refl, sym, _∙_, ap, subst}
-use mathlib.Core.Logic.{_⊎_, inl, inr, _↔_}
+use mathlib.Core.Logic.{inl, inr, _↔_}
 use mathlib.Core.Bool.{Bool, true, false, cond, not, _&&_, _||_}
 use mathlib.Core.List.{List, [], _∷_, _++_}
-use Prim.Native.Nat.{ℕ, zero, suc, _+_, _<_, _≤_}
+use Prim.Native.Nat.{ℕ, zero, suc, _+_, _≤_}
 use native.Mathlib.Omega.{arith}
-use lib.Dec.{T, eqb, leb, ltb}
+use lib.Dec.{eqb, leb, ltb}
 use lib.ListN.{length}
-use Rattle.std.proofs.shelf.Tests.{cases-bool, eqb-true, eq-eqb, ne-eqb, or-cases, or-left, or-right, and-parts, and-from, leb-true, leb-false, not-from-false}
+use Rattle.std.proofs.shelf.Tests.{eqb-true, eq-eqb, ne-eqb, or-cases, or-left, or-right, and-parts, and-from, leb-true, leb-false}
 use Rattle.std.specs.declared.option.Option.{Option}
 use Rattle.std.specs.declared.option.Option.the-variants.{Some, None}
 use Rattle.graph.specs.Paths.{Path, _∈_}
@@ -18,12 +18,12 @@ use Rattle.history.specs.declared.refusal.Refusal.the-variants.{TableFull, Num
 use Rattle.history.specs.Refusals.{aborts}
 use Rattle.history.specs.Acts.{Fate, fate}
 use Rattle.history.specs.Conflicts.{Access, accesses}
-use Rattle.history.specs.Machine.{State, Status, made, rising, those, any, present, jobs, served, seen, holdings, drawn, draws-from, closes-cycle, retirable, has-committed, opened, has-read, has-written, has-ended, removed, all-removed, retiring, Call, begin, read, write, commit, abort, retire, peek, Answer, answered, done, wrote, refused, _else_, refuse-if, not-running, not-served, held-by-another, refusal, granted-answer, granted-state, refused-state, by-refusal, answer, after-call, put-count, Steps}
-use Rattle.history.specs.Runs.{Turn, Runs, acts-of, retired-of}
+use Rattle.history.specs.Machine.{State, Status, made, jobs, served, holdings, drawn, draws-from, closes-cycle, retirable, opened, has-read, has-written, has-ended, removed, all-removed, retiring, Call, begin, read, write, commit, abort, retire, peek, Answer, refused, _else_, refuse-if, not-running, refusal, granted-answer, granted-state, refused-state, by-refusal, answer, after-call, put-count, Steps}
+use Rattle.history.specs.Runs.{acts-of, retired-of}
 use Rattle.history.specs.Laws.{Reached, but-room, OneOutcome, RefusalsChangeNothing, ConflictsAbort, StepEdge, Unbarred, RefusedOnPath, ExactTest, MayRetire, Retirement, RetiresSmallest}
-use Rattle.history.proofs.Lists.{true-not-false, T-true, true-T, mem, mem-∈, ∈-mem, those-∈, ∈-those, any-true, true-any, Ascending, ascending-rising, ascending-those, first-smallest}
+use Rattle.history.proofs.Lists.{true-not-false, T-true, true-T, mem, ∈-mem, Ascending, first-smallest}
 use Rattle.history.proofs.Paths.{Drawn, path-map, path-sound, path-found}
-use Rattle.history.proofs.Graphs.{Live, committed-kept}
+use Rattle.history.proofs.Graphs.{committed-kept}
 use Rattle.history.proofs.Values.{FreeOr, free, own}
 use Rattle.history.proofs.Fates.{shown-committed}
 use Rattle.history.proofs.Invariant.{Inv, runs, lives-listed, step-edges}

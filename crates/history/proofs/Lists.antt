@@ -1,12 +1,12 @@
 -- Lists of numbers: membership, tests over them, numbers that rise.
 use mathlib.Core.Path.{_≡_, refl, sym, _∙_, ap}
 use mathlib.Core.Logic.{_⊎_, inl, inr}
-use mathlib.Core.Bool.{Bool, true, false, cond, not, _&&_, _||_}
+use mathlib.Core.Bool.{Bool, true, false, _||_}
 use mathlib.Core.List.{List, [], _∷_, _++_}
 use Prim.Native.Nat.{ℕ, zero, suc, _+_, _≤_, _<_}
 use native.Mathlib.Omega.{arith}
 use lib.Dec.{T, eqb}
-use Rattle.std.proofs.shelf.Tests.{eqb-true, eq-eqb, ne-eqb, cases-eq, cases-bool, or-cases, or-left, or-right, or-parts}
+use Rattle.std.proofs.shelf.Tests.{eqb-true, eq-eqb, cases-eq, cases-bool, or-cases, or-left, or-right}
 use Rattle.graph.specs.Paths.{Relation, _∈_, Distinct, Forward}
 use Rattle.history.specs.Machine.{rising, those, any}
 

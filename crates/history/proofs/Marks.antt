@@ -1,19 +1,15 @@
 -- The machine's sets and edges are the record's, among the jobs that live: they stay so when the jobs
 -- that live change, when a job is removed, and when a step is granted. And the graph of the record.
-use mathlib.Core.Path.{_≡_, refl, sym, _∙_, ap, subst}
-use mathlib.Core.Logic.{_⊎_, inl, inr}
-use mathlib.Core.Bool.{Bool, true, false, cond, not, _&&_, _||_}
+use mathlib.Core.Path.{_≡_, refl, sym, ap, subst}
+use mathlib.Core.Logic.{inl, inr}
+use mathlib.Core.Bool.{Bool, true, false, not, _&&_, _||_}
 use mathlib.Core.List.{List, [], _∷_, _++_}
-use Prim.Native.Nat.{ℕ, _<_}
-use native.Mathlib.Omega.{arith}
-use lib.Dec.{T, eqb}
-use Rattle.std.proofs.shelf.Tests.{cases-bool, cases-eq, eqb-true, eqb-false, eq-eqb, ne-eqb, or-cases, or-left, or-right, and-parts, and-from, not-from-false}
-use Rattle.graph.specs.Paths.{Relation, Path, edge, _then_, Cycle, _∈_, Distinct, Forward}
-use Rattle.history.specs.Acts.{Fate, not-aborted}
+use Prim.Native.Nat.{ℕ}
+use lib.Dec.{eqb}
+use Rattle.std.proofs.shelf.Tests.{cases-eq, eqb-true, eq-eqb, ne-eqb, or-cases, or-left, or-right, and-parts, and-from}
 use Rattle.history.specs.Conflicts.{Access, Leads}
-use Rattle.history.specs.Machine.{put-at, with-one, without, path}
-use Rattle.history.proofs.Lists.{true-not-false, ∈-split, ∈-left, ∈-right, ∈-dec, forward-weaken, forward-join, distinct-join}
-use Rattle.history.proofs.Paths.{Drawn, path-map, path-sound, path-found, cycle-by-new, path-stays}
+use Rattle.history.specs.Machine.{put-at, with-one, without}
+use Rattle.history.proofs.Lists.{true-not-false}
 use Rattle.history.proofs.Records.{Occurs, Did, did-occurs, leads-occurs, Met, leads-more, leads-old, leads-new, met-did, did-met-write, did-met-read, did-more, did-old, did-new}
 
 -- a set of jobs by item has the jobs that live and accessed the item so

@@ -1,8 +1,8 @@
 -- Paths of a graph whose edges are a test: the search over listed nodes is exact, an order exists where
 -- there is no cycle, and a cycle that new edges close runs through the node that they lead into.
-use mathlib.Core.Path.{_≡_, refl, sym, _∙_, ap, subst}
+use mathlib.Core.Path.{_≡_, subst}
 use mathlib.Core.Logic.{_⊎_, inl, inr}
-use mathlib.Core.Bool.{Bool, true, false, cond, not, _&&_, _||_}
+use mathlib.Core.Bool.{Bool, true, not, _&&_}
 use mathlib.Core.List.{List, [], _∷_, _++_}
 use Prim.Native.Nat.{ℕ}
 use Rattle.std.proofs.shelf.Tests.{cases-bool, or-cases, or-left, or-right, and-parts, and-from, not-from-true, not-from-false}

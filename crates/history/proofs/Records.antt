@@ -1,10 +1,10 @@
 -- A record with one act more: what becomes of a job, the accesses, and the conflicts that the last
 -- access draws.
-use mathlib.Core.Path.{_≡_, refl, sym, _∙_, ap, subst}
+use mathlib.Core.Path.{_≡_, refl, sym, _∙_, ap}
 use mathlib.Core.Logic.{_⊎_, inl, inr}
-use mathlib.Core.Bool.{Bool, true, false, cond, _||_}
+use mathlib.Core.Bool.{Bool, true, false, _||_}
 use mathlib.Core.List.{List, [], _∷_, _++_}
-use Prim.Native.Nat.{ℕ, _<_}
+use Prim.Native.Nat.{ℕ}
 use lib.Dec.{T}
 use Rattle.std.proofs.shelf.Tests.{cases-bool}
 use Rattle.trace.specs.declared.act.Act.{Act}

@@ -1,19 +1,18 @@
 -- Replaying reads and writes with the answers that they had: what does not conflict changes places, so
 -- every serial order replays if the order of time does.
 use mathlib.Core.Path.{_≡_, refl, sym, _∙_, ap, ap₂, subst}
-use mathlib.Core.Logic.{_⊎_, inl, inr}
-use mathlib.Core.Bool.{Bool, true, false, cond, not, _&&_, _||_}
+use mathlib.Core.Logic.{inl, inr}
+use mathlib.Core.Bool.{Bool, true, false, cond, not, _||_}
 use mathlib.Core.List.{List, [], _∷_, _++_, map}
-use Prim.Native.Nat.{ℕ, _<_}
-use native.Mathlib.Omega.{arith}
+use Prim.Native.Nat.{ℕ}
 use lib.Dec.{T, eqb}
-use lib.ListN.{length, getD, set}
-use Rattle.std.proofs.shelf.Tests.{cases-bool, cases-eq, eqb-true, eqb-false, eq-eqb, ne-eqb}
-use Rattle.std.proofs.shelf.Lists.{getD-set-other, set-comm, append-nil, append-assoc}
-use Rattle.graph.specs.Paths.{Relation, _∈_, Distinct, Forward}
+use lib.ListN.{getD, set}
+use Rattle.std.proofs.shelf.Tests.{cases-bool, cases-eq, eq-eqb, ne-eqb}
+use Rattle.std.proofs.shelf.Lists.{getD-set-other, set-comm}
+use Rattle.graph.specs.Paths.{_∈_, Distinct, Forward}
 use Rattle.history.specs.Conflicts.{Access, Conflict, Meets, Leads}
-use Rattle.history.specs.Serial.{Request, read, write, request, Outcome, serial, of-job, in-order, values-read}
-use Rattle.history.proofs.Lists.{true-not-false, forward-weaken}
+use Rattle.history.specs.Serial.{request, serial, of-job, in-order, values-read}
+use Rattle.history.proofs.Lists.{forward-weaken}
 
 -- what an access does to the contents
 abbrev pub does : Access → List ℕ → List ℕ

@@ -1,7 +1,7 @@
 -- What may retire: the machine's list of it, told by its members; and that retiring keeps what holds of
 -- the states that a run comes to.
-use mathlib.Core.Path.{_≡_, refl, sym, _∙_, ap, subst}
-use mathlib.Core.Logic.{_⊎_, inl, inr}
+use mathlib.Core.Path.{_≡_, refl, sym, ap, subst}
+use mathlib.Core.Logic.{inl, inr}
 use mathlib.Core.Bool.{Bool, true, false, not, _&&_}
 use mathlib.Core.List.{List, [], _∷_, _++_}
 use Prim.Native.Nat.{ℕ, zero, suc, _<_, _≤_}
@@ -22,7 +22,7 @@ pub ∈-jobs : (st : State) (j : ℕ) → j < st .next → present (st .status j
 unfolding jobs
 ∈-jobs st j l e =
     ∈-those (λ i. present (st .status i)) j (rising 0 (st .next))
-      (∈-rising 0 (st .next) j (omega arith) (subst (λ (z : ℕ). j < z) (sym (zero-add (st .next))) l)) e
+    (∈-rising 0 (st .next) j (omega arith) (subst (λ (z : ℕ). j < z) (sym (zero-add (st .next))) l)) e
 
 pub jobs-∈ : (st : State) (j : ℕ) → j ∈ jobs st → (j < st .next) × (present (st .status j) ≡ true)
 unfolding jobs
@@ -68,17 +68,18 @@ pub ∈-retirable : (st : State) (j : ℕ) → j ∈ jobs st → st .status j �
 unfolding retirable
 ∈-retirable st j h c n =
     ∈-those (λ i. has-committed (st .status i) && not (any (λ k. st .edges k i) (jobs st))) j (jobs st) h
-      (and-from (has-committed (st .status j)) (not (any (λ k. st .edges k j) (jobs st))) (ap has-committed c)
-        (not-from-false (any (λ k. st .edges k j) (jobs st))
-          (elim (cases-bool (any (λ k. st .edges k j) (jobs st)))
-           [ inl e ↦ let z = any-true (λ k. st .edges k j) (jobs st) e in absurd (n (z .0) (z .1) (z .2))
-           | inr e ↦ e ])))
+    (and-from (has-committed (st .status j)) (not (any (λ k. st .edges k j) (jobs st))) (ap has-committed c)
+    (not-from-false (any (λ k. st .edges k j) (jobs st))
+    (elim (cases-bool (any (λ k. st .edges k j) (jobs st))) [
+      | inl e ↦ let z = any-true (λ k. st .edges k j) (jobs st) e in absurd (n (z .0) (z .1) (z .2))
+      | inr e ↦ e
+    ])))
 
 pub retirable-ascending : (st : State) → Ascending (retirable st)
 unfolding retirable jobs
 retirable-ascending st =
     ascending-those (λ i. has-committed (st .status i) && not (any (λ k. st .edges k i) (jobs st))) (jobs st)
-      (ascending-those (λ i. present (st .status i)) (rising 0 (st .next)) (ascending-rising 0 (st .next)))
+    (ascending-those (λ i. present (st .status i)) (rising 0 (st .next)) (ascending-rising 0 (st .next)))
 
 -- the first of a list that rises is its smallest, and the other way round
 first-is : (xs : List ℕ) (j : ℕ) → Ascending xs → j ∈ xs → ((i : ℕ) → i ∈ xs → j ≤ i)

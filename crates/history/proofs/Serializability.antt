@@ -1,37 +1,37 @@
 -- Every run of a hub is serializable: from the invariant.
-use mathlib.Core.Path.{_≡_, refl, sym, _∙_, ap, subst, subst₂, fun-ext, transport}
-use mathlib.Core.Logic.{_⊎_, inl, inr, _↔_}
-use mathlib.Core.Bool.{Bool, true, false, cond, not, _&&_, _||_}
-use mathlib.Core.List.{List, [], _∷_, _++_, map}
-use Prim.Native.Nat.{ℕ, _<_, _≤_}
+use mathlib.Core.Path.{_≡_, refl, sym, _∙_, ap, subst₂, fun-ext, transport}
+use mathlib.Core.Logic.{inl, inr, _↔_}
+use mathlib.Core.Bool.{Bool, true, false, cond}
+use mathlib.Core.List.{List, [], _∷_, _++_}
+use Prim.Native.Nat.{ℕ, _≤_}
 use native.Mathlib.Omega.{arith}
 use lib.Dec.{T, leb}
-use lib.ListN.{length, getD}
-use Rattle.std.proofs.shelf.Tests.{cases-bool, leb-true, leb-false}
+use lib.ListN.{getD}
+use Rattle.std.proofs.shelf.Tests.{leb-true}
 use Rattle.std.proofs.shelf.Lists.{ext-getD}
 use Rattle.std.specs.declared.option.Option.{Option}
 use Rattle.std.specs.declared.option.Option.the-variants.{Some, None}
-use Rattle.graph.specs.Paths.{Relation, Path, edge, Cycle, _∈_, Distinct, Forward}
+use Rattle.graph.specs.Paths.{Path, edge, Cycle, _∈_, Distinct}
 use Rattle.trace.specs.declared.act.Act.{Act}
 use Rattle.trace.specs.declared.act.Act.the-variants.{Read, Write}
 use Rattle.history.specs.declared.holding.Holding.{Holding}
 use Rattle.history.specs.declared.refusal.Refusal.{Refusal}
-use Rattle.history.specs.declared.refusal.Refusal.the-variants.{ClosesCycle, ItemNotServed}
+use Rattle.history.specs.declared.refusal.Refusal.the-variants.{ClosesCycle}
 use Rattle.history.specs.Refusals.{aborts}
-use Rattle.history.specs.Acts.{Fate, after, fate, Kept, not-aborted, is-committed}
+use Rattle.history.specs.Acts.{Fate, after, fate, not-aborted, is-committed}
 use Rattle.history.specs.Conflicts.{Access, accesses, Edge, Leads, SerialOrder}
 use Rattle.history.specs.Serial.{RunsSerially, in-order}
-use Rattle.history.specs.Machine.{State, Status, made, jobs, rising, those, served, seen, closes-cycle, Call, read, write, Answer, answered, done, wrote, refused, refusal, granted-answer, by-refusal, answer, Steps, has-committed, present, path}
-use Rattle.history.specs.Runs.{Turn, Runs, acts-of, retired-of}
+use Rattle.history.specs.Machine.{State, made, jobs, rising, those, served, seen, closes-cycle, read, write, Answer, answered, done, refused, refusal, granted-answer, by-refusal, answer, has-committed, present, path}
+use Rattle.history.specs.Runs.{acts-of, retired-of}
 use Rattle.history.specs.Promises.{FreeFor, WouldCycle, RefusedForCycle, Serializable, EveryRunSerializable}
 use Rattle.history.proofs.Lists.{true-not-false, T-true, true-T, mem, ∈-mem, ∈-dec, ∈-left, ∈-right, ∈-split, ∈-those, those-∈, distinct-those, distinct-rising, distinct-join, forward-join, forward-weaken}
 use Rattle.history.proofs.Paths.{Drawn, path-map, path-sound, path-found, ordered, ordered-only, ordered-all, ordered-distinct, ordered-forward}
 use Rattle.history.proofs.Replay.{Replay, kept, ByJobs, in-order-kept, leads-kept, replay-order, replay-serial}
-use Rattle.history.proofs.Records.{Occurs, Did, did-wrote, leads-more, met-did, fate-more, accesses-join}
-use Rattle.history.proofs.Graphs.{Among, Live}
-use Rattle.history.proofs.Values.{laid, FreeOr, free, own}
+use Rattle.history.proofs.Records.{Did, did-wrote, leads-more, met-did, fate-more, accesses-join}
+use Rattle.history.proofs.Graphs.{Among}
+use Rattle.history.proofs.Values.{laid}
 use Rattle.history.proofs.Fates.{shown, not-mem, known-did}
-use Rattle.history.proofs.Invariant.{Inv, runs, runs-back, lives-listed, step, cycle-found, cycle-there}
+use Rattle.history.proofs.Invariant.{runs-back, lives-listed, step, cycle-found, cycle-there}
 use Rattle.history.proofs.Turns.{Holds, Barred, StepCases, barred, closing, granted, step-cases, inv-run, inv-made}
 
 committed-fate : (f : Fate) → T (is-committed f) → f ≡ Fate.committed

@@ -1,17 +1,17 @@
 -- Each turn of a run keeps the invariant, so every run does.
 use mathlib.Core.Path.{_≡_, refl, sym, _∙_, ap, subst, subst₂, subst₃, fun-ext}
 use mathlib.Core.Logic.{_⊎_, inl, inr}
-use mathlib.Core.Bool.{Bool, true, false, cond, not, _&&_, _||_}
+use mathlib.Core.Bool.{Bool, true, false, not}
 use mathlib.Core.List.{List, [], _∷_, _++_}
-use Prim.Native.Nat.{ℕ, zero, suc, min, _<_, _≤_}
+use Prim.Native.Nat.{ℕ}
 use native.Mathlib.Omega.{arith}
-use lib.Dec.{T, eqb, leb, ltb}
+use lib.Dec.{eqb, leb, ltb}
 use lib.ListN.{length, getD}
-use Rattle.std.proofs.shelf.Tests.{cases-bool, eqb-true, eqb-false, and-parts, and-from, leb-false, leb-true}
+use Rattle.std.proofs.shelf.Tests.{eqb-true, eqb-false, leb-false}
 use Rattle.std.proofs.shelf.Lists.{append-nil, append-assoc}
 use Rattle.std.specs.declared.option.Option.{Option}
 use Rattle.std.specs.declared.option.Option.the-variants.{Some, None}
-use Rattle.graph.specs.Paths.{_∈_, Cycle, Path, edge, _then_}
+use Rattle.graph.specs.Paths.{Path, edge, _then_}
 use Rattle.trace.specs.declared.act.Act.{Act}
 use Rattle.trace.specs.declared.act.Act.the-variants.{Open, Read, Write, Commit, Abort, Peek, Retire}
 use Rattle.history.specs.declared.holding.Holding.{Holding}
@@ -20,15 +20,15 @@ use Rattle.history.specs.declared.refusal.Refusal.the-variants.{TableFull, Num
 use Rattle.history.specs.Refusals.{aborts}
 use Rattle.history.specs.Acts.{Fate, after, fate}
 use Rattle.history.specs.Conflicts.{Access, accesses}
-use Rattle.history.specs.Machine.{State, Status, made, rising, those, any, jobs, served, seen, closes-cycle, retirable, has-committed, removed, all-removed, retiring, Call, begin, read, write, commit, abort, retire, peek, Answer, answered, done, wrote, refused, _else_, refuse-if, not-running, not-served, held-by-another, refusal, granted-answer, granted-state, refused-state, by-refusal, answer, after-call, Steps}
-use Rattle.history.specs.Runs.{Turn, Runs, acts, granted-act, refused-acts, acts-of, retired-by, retired-of}
+use Rattle.history.specs.Machine.{State, Status, made, jobs, served, seen, closes-cycle, removed, retiring, Call, begin, read, write, commit, abort, retire, peek, Answer, refused, _else_, refuse-if, not-running, held-by-another, refusal, granted-answer, granted-state, refused-state, by-refusal, answer, after-call, Steps}
+use Rattle.history.specs.Runs.{Turn, Runs, acts, acts-of, retired-by, retired-of}
 use Rattle.history.proofs.Lists.{true-not-false, mem}
 use Rattle.history.proofs.Replay.{kept}
 use Rattle.history.proofs.Records.{fate-more, accesses-join}
-use Rattle.history.proofs.Graphs.{Among, Live}
+use Rattle.history.proofs.Graphs.{Among}
 use Rattle.history.proofs.Values.{FreeOr, free, own}
 use Rattle.history.proofs.Fates.{shown}
-use Rattle.history.proofs.Invariant.{Inv, runs, lives-listed, step}
+use Rattle.history.proofs.Invariant.{Inv, runs}
 use Rattle.history.proofs.Changes.{inv-opened, inv-ended, inv-aborted, inv-read, inv-written}
 use Rattle.history.proofs.Retiring.{inv-retiring}
 

@@ -2,24 +2,24 @@
 -- in the order of time, from the opening contents to the store's values with those held by jobs that
 -- count laid over.
 use mathlib.Core.Path.{_≡_, refl, sym, _∙_, ap, subst}
-use mathlib.Core.Logic.{_⊎_, inl, inr}
+use mathlib.Core.Logic.{inl, inr}
 use mathlib.Core.Bool.{Bool, true, false, cond}
 use mathlib.Core.List.{List, [], _∷_, _++_}
-use Prim.Native.Nat.{ℕ, zero, suc, min, _+_, _<_, _≤_}
+use Prim.Native.Nat.{ℕ, min, _<_}
 use native.Mathlib.Omega.{arith}
-use lib.Dec.{T, eqb}
+use lib.Dec.{eqb}
 use lib.ListN.{length, getD, set}
 use Rattle.std.proofs.shelf.Tests.{cases-bool, cases-eq, eqb-true, eqb-false, eq-eqb, ne-eqb}
-use Rattle.std.proofs.shelf.Lists.{getD-set-same, getD-set-other, length-set, append-nil, ext-getD}
+use Rattle.std.proofs.shelf.Lists.{getD-set-same, getD-set-other, length-set}
 use Rattle.std.specs.declared.option.Option.{Option}
 use Rattle.std.specs.declared.option.Option.the-variants.{Some, None}
-use Rattle.graph.specs.Paths.{_∈_, Distinct}
+use Rattle.graph.specs.Paths.{_∈_}
 use Rattle.history.specs.declared.holding.Holding.{Holding}
 use Rattle.history.specs.Acts.{Fate}
 use Rattle.history.specs.Conflicts.{Access}
 use Rattle.history.specs.Machine.{holds, held-value, let-go, put-at, put-all, those, rising}
 use Rattle.history.proofs.Lists.{true-not-false, ∈-those, those-∈, ∈-dec, ∈-rising}
-use Rattle.history.proofs.Replay.{Replay, Fits, does, kept, replay-join}
+use Rattle.history.proofs.Replay.{Replay, kept, replay-join}
 use Rattle.history.proofs.Records.{kept-more-yes, kept-more-no}
 
 -- the value of an item as those who count see it

@@ -1,6 +1,5 @@
 -- Worked examples, each named by what it shows: calls with their answers on a hub of 32 slots whose first
 -- job gets the number 1, and traces with an order or a cycle of their jobs. Rests on Runs and Conflicts.
-use mathlib.Core.Path.{_≡_}
 use mathlib.Core.List.{List, [], _∷_, _++_}
 use Prim.Native.Nat.{ℕ, zero, suc}
 use lib.ListN.{replicate}
