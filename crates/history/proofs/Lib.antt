@@ -5,6 +5,7 @@ pub mod Examples
 pub mod Fates
 pub mod Graphs
 pub mod Invariant
+pub mod Joining
 pub mod Laws
 pub mod Lists
 pub mod Marks
