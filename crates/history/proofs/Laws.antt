@@ -38,51 +38,53 @@ unfolding all-removed removed
 removed-room [] s = refl
 removed-room (j ∷ js) s = removed-room js (removed j s)
 
-cond-room : (b : Bool) (j : ℕ) (s : State) → cond b (removed j s) s .room ≡ s .room
+granted-room : (s : State) (c : Call) (left : ℕ) → (put-count s c ≡ 0 → left ≡ s .room)
+    → granted-state s c left .room ≡ left
+unfolding put-count granted-state opened has-read has-written has-ended removed
+granted-room s begin left k = sym (k refl)
+granted-room s (read j x) left k = sym (k refl)
+granted-room s (write j x v) left k = sym (k refl)
+granted-room s (commit j) left k = refl
+granted-room s (abort j) left k = sym (k refl)
+granted-room s (retire n) left k = removed-room (retiring n s) s ∙ sym (k refl)
+granted-room s (peek x) left k = sym (k refl)
+
+aborted-room : (b : Bool) (j : ℕ) (s : State) → cond b (removed j s) s .room ≡ s .room
 unfolding removed
-cond-room true j s = refl
-cond-room false j s = refl
+aborted-room true j s = refl
+aborted-room false j s = refl
+
+refused-room : (s : State) (c : Call) (r : Refusal) → refused-state s c r .room ≡ s .room
+unfolding refused-state
+refused-room s begin r = refl
+refused-room s (read j x) r = aborted-room (aborts r) j s
+refused-room s (write j x v) r = aborted-room (aborts r) j s
+refused-room s (commit j) r = refl
+refused-room s (abort j) r = refl
+refused-room s (retire n) r = refl
+refused-room s (peek x) r = refl
+
+-- a refused call puts nothing
+refused-puts : (s : State) (c : Call) (r : Refusal) → refusal s c ≡ Some r → put-count s c ≡ 0
+unfolding put-count
+refused-puts s begin r e = refl
+refused-puts s (read j x) r e = refl
+refused-puts s (write j x v) r e = refl
+refused-puts s (commit j) r e = rw e
+refused-puts s (abort j) r e = refl
+refused-puts s (retire n) r e = refl
+refused-puts s (peek x) r e = refl
 
 -- the room that is left is the one that was said, if it stays where nothing is put
 pub after-room : (s : State) (c : Call) (left : ℕ) → (put-count s c ≡ 0 → left ≡ s .room)
     → after-call s c left .room ≡ left
-unfolding after-call put-count refused-state granted-state opened has-read has-written has-ended removed
-after-room s begin left k = go (refusal s begin)
+unfolding after-call
+after-room s c left k = go (refusal s c) refl
   where
-    go : (ρ : Option Refusal) → by-refusal ρ (granted-state s begin left) (λ r. refused-state s begin r) .room ≡ left
-    go None = sym (k refl)
-    go (Some r) = sym (k refl)
-after-room s (read j x) left k = go (refusal s (read j x))
-  where
-    go : (ρ : Option Refusal) → by-refusal ρ (granted-state s (read j x) left) (λ r. refused-state s (read j x) r) .room ≡ left
-    go None = sym (k refl)
-    go (Some r) = cond-room (aborts r) j s ∙ sym (k refl)
-after-room s (write j x v) left k = go (refusal s (write j x v))
-  where
-    go : (ρ : Option Refusal) → by-refusal ρ (granted-state s (write j x v) left) (λ r. refused-state s (write j x v) r) .room ≡ left
-    go None = sym (k refl)
-    go (Some r) = cond-room (aborts r) j s ∙ sym (k refl)
-after-room s (commit j) left k = go (refusal s (commit j)) k
-  where
-    go : (ρ : Option Refusal) → (by-refusal ρ (length (holdings s j)) (λ r. 0) ≡ 0 → left ≡ s .room)
-        → by-refusal ρ (granted-state s (commit j) left) (λ r. refused-state s (commit j) r) .room ≡ left
-    go None h = refl
-    go (Some r) h = sym (h refl)
-after-room s (abort j) left k = go (refusal s (abort j))
-  where
-    go : (ρ : Option Refusal) → by-refusal ρ (granted-state s (abort j) left) (λ r. refused-state s (abort j) r) .room ≡ left
-    go None = sym (k refl)
-    go (Some r) = sym (k refl)
-after-room s (retire n) left k = go (refusal s (retire n))
-  where
-    go : (ρ : Option Refusal) → by-refusal ρ (granted-state s (retire n) left) (λ r. refused-state s (retire n) r) .room ≡ left
-    go None = removed-room (retiring n s) s ∙ sym (k refl)
-    go (Some r) = sym (k refl)
-after-room s (peek x) left k = go (refusal s (peek x))
-  where
-    go : (ρ : Option Refusal) → by-refusal ρ (granted-state s (peek x) left) (λ r. refused-state s (peek x) r) .room ≡ left
-    go None = sym (k refl)
-    go (Some r) = sym (k refl)
+    go : (ρ : Option Refusal) → refusal s c ≡ ρ
+        → by-refusal ρ (granted-state s c left) (λ r. refused-state s c r) .room ≡ left
+    go None e = granted-room s c left k
+    go (Some r) e = refused-room s c r ∙ sym (k (refused-puts s c r e))
 
 -- every call can be made, with each room that its puts may leave
 pub steps : (s : State) (c : Call) (left : ℕ) → (put-count s c ≡ 0 → left ≡ s .room) → s .room ≤ left + put-count s c
