@@ -1,10 +1,10 @@
 -- A record with one act more: what becomes of a job, the accesses, and the conflicts that the last
 -- access draws.
-use mathlib.Core.Path.{_≡_, refl, sym, _∙_, ap, subst}
+use mathlib.Core.Path.{_≡_, refl, sym, _∙_, ap}
 use mathlib.Core.Logic.{_⊎_, inl, inr}
-use mathlib.Core.Bool.{Bool, true, false, cond, _||_}
+use mathlib.Core.Bool.{Bool, true, false, _||_}
 use mathlib.Core.List.{List, [], _∷_, _++_}
-use Prim.Native.Nat.{ℕ, _<_}
+use Prim.Native.Nat.{ℕ}
 use lib.Dec.{T}
 use Rattle.std.proofs.shelf.Tests.{cases-bool}
 use Rattle.trace.specs.declared.act.Act.{Act}
@@ -151,14 +151,16 @@ module _ (a : Access) where
   unfolding kept
   kept-more-yes k [] e = rw e
   kept-more-yes k (b ∷ s) e =
-      elim (cases-bool (k (b .job)))
-      [ inl q ↦ rw (kept-yes k b (s ++ a ∷ []) q, kept-yes k b s q) (ap (λ (t : List Access). b ∷ t) (kept-more-yes k s e))
-      | inr q ↦ rw (kept-no k b (s ++ a ∷ []) q, kept-no k b s q) (kept-more-yes k s e) ]
+      elim (cases-bool (k (b .job))) [
+        | inl q ↦ rw (kept-yes k b (s ++ a ∷ []) q, kept-yes k b s q) (ap (λ (t : List Access). b ∷ t) (kept-more-yes k s e))
+        | inr q ↦ rw (kept-no k b (s ++ a ∷ []) q, kept-no k b s q) (kept-more-yes k s e)
+      ]
 
   pub kept-more-no : (k : ℕ → Bool) (s : List Access) → k (a .job) ≡ false → kept k (s ++ a ∷ []) ≡ kept k s
   unfolding kept
   kept-more-no k [] e = rw e
   kept-more-no k (b ∷ s) e =
-      elim (cases-bool (k (b .job)))
-      [ inl q ↦ rw (kept-yes k b (s ++ a ∷ []) q, kept-yes k b s q) (ap (λ (t : List Access). b ∷ t) (kept-more-no k s e))
-      | inr q ↦ rw (kept-no k b (s ++ a ∷ []) q, kept-no k b s q) (kept-more-no k s e) ]
+      elim (cases-bool (k (b .job))) [
+        | inl q ↦ rw (kept-yes k b (s ++ a ∷ []) q, kept-yes k b s q) (ap (λ (t : List Access). b ∷ t) (kept-more-no k s e))
+        | inr q ↦ rw (kept-no k b (s ++ a ∷ []) q, kept-no k b s q) (kept-more-no k s e)
+      ]

@@ -27,7 +27,7 @@ pub record State : Type 0 where
   pub slots : ℕ
   -- the number that the next job gets
   pub next : ℕ
-  -- by job
+  -- by job: whether it is present, and how
   pub status : ℕ → Status
   -- by item: its holder with the value that the holder wrote
   pub held : ℕ → Option Holding
@@ -36,23 +36,23 @@ pub record State : Type 0 where
   pub writers : ℕ → ℕ → Bool
   -- an edge leads from the first job to the second
   pub edges : ℕ → ℕ → Bool
-  -- what the store means: its values, one an item, and its room
+  -- the store's meaning: its values, one an item, and its room
   pub values : List ℕ
   pub room : ℕ
 
 -- a hub that was just made
 unfoldable pub made : ℕ → ℕ → List ℕ → ℕ → State
 made slots first values room =
-    record
-    { slots = slots
-    ; next = first
-    ; status = λ j. absent
-    ; held = λ x. None
-    ; readers = λ x j. false
-    ; writers = λ x j. false
-    ; edges = λ i j. false
-    ; values = values
-    ; room = room
+    record {
+      slots = slots;
+      next = first;
+      status = λ j. absent;
+      held = λ x. None;
+      readers = λ x j. false;
+      writers = λ x j. false;
+      edges = λ i j. false;
+      values = values;
+      room = room;
     }
 
 -- THE QUESTIONS THAT A CALL ASKS OF IT
@@ -72,6 +72,7 @@ unfoldable pub any : (ℕ → Bool) → List ℕ → Bool
 any p [] = false
 any p (x ∷ xs) = p x || any p xs
 
+-- a job is present while it runs, and from its commit until it retires
 abbrev pub present : Status → Bool
 present absent = false
 present running = true
@@ -122,7 +123,7 @@ unfoldable pub path : List ℕ → (ℕ → ℕ → Bool) → ℕ → ℕ → Bo
 path [] e i j = e i j
 path (k ∷ ks) e i j = path ks e i j || path ks e i k && path ks e k j
 
--- with the edges of the step drawn, a path leads from the job to itself
+-- a step would close a cycle: with its edges drawn, a path leads from the job to itself
 abbrev pub closes-cycle : State → ℕ → ℕ → Bool → Bool
 closes-cycle s j x writes = path (jobs s) (drawn s j x writes) j j
 
@@ -150,46 +151,46 @@ let-go j h = cond (holds j h) None h
 -- the next number is given to a job, which runs
 unfoldable pub opened : State → State
 opened s =
-    record
-    { slots = s .slots
-    ; next = suc (s .next)
-    ; status = put-at (s .next) running (s .status)
-    ; held = s .held
-    ; readers = s .readers
-    ; writers = s .writers
-    ; edges = s .edges
-    ; values = s .values
-    ; room = s .room
+    record {
+      slots = s .slots;
+      next = suc (s .next);
+      status = put-at (s .next) running (s .status);
+      held = s .held;
+      readers = s .readers;
+      writers = s .writers;
+      edges = s .edges;
+      values = s .values;
+      room = s .room;
     }
 
 -- job j has read item x
 unfoldable pub has-read : ℕ → ℕ → State → State
 has-read j x s =
-    record
-    { slots = s .slots
-    ; next = s .next
-    ; status = s .status
-    ; held = s .held
-    ; readers = put-at x (with-one j (s .readers x)) (s .readers)
-    ; writers = s .writers
-    ; edges = drawn s j x false
-    ; values = s .values
-    ; room = s .room
+    record {
+      slots = s .slots;
+      next = s .next;
+      status = s .status;
+      held = s .held;
+      readers = put-at x (with-one j (s .readers x)) (s .readers);
+      writers = s .writers;
+      edges = drawn s j x false;
+      values = s .values;
+      room = s .room;
     }
 
 -- job j has written v to item x, and holds it
 unfoldable pub has-written : ℕ → ℕ → ℕ → State → State
 has-written j x v s =
-    record
-    { slots = s .slots
-    ; next = s .next
-    ; status = s .status
-    ; held = put-at x (Some (record { job = j; value = v })) (s .held)
-    ; readers = s .readers
-    ; writers = put-at x (with-one j (s .writers x)) (s .writers)
-    ; edges = drawn s j x true
-    ; values = s .values
-    ; room = s .room
+    record {
+      slots = s .slots;
+      next = s .next;
+      status = s .status;
+      held = put-at x (Some (record { job = j; value = v })) (s .held);
+      readers = s .readers;
+      writers = put-at x (with-one j (s .writers x)) (s .writers);
+      edges = drawn s j x true;
+      values = s .values;
+      room = s .room;
     }
 
 -- the held values of the listed items put into the store, one after another
@@ -200,31 +201,31 @@ put-all held (x ∷ xs) values = put-all held xs (set values x (held-value (held
 -- job j has committed: its held values are in the store, which has this room left, and it holds nothing
 unfoldable pub has-ended : ℕ → ℕ → State → State
 has-ended j left s =
-    record
-    { slots = s .slots
-    ; next = s .next
-    ; status = put-at j committed (s .status)
-    ; held = λ x. let-go j (s .held x)
-    ; readers = s .readers
-    ; writers = s .writers
-    ; edges = s .edges
-    ; values = put-all (s .held) (holdings s j) (s .values)
-    ; room = left
+    record {
+      slots = s .slots;
+      next = s .next;
+      status = put-at j committed (s .status);
+      held = λ x. let-go j (s .held x);
+      readers = s .readers;
+      writers = s .writers;
+      edges = s .edges;
+      values = put-all (s .held) (holdings s j) (s .values);
+      room = left;
     }
 
 -- job j is gone, with its holdings, its part in the sets and its edges both ways
 unfoldable pub removed : ℕ → State → State
 removed j s =
-    record
-    { slots = s .slots
-    ; next = s .next
-    ; status = put-at j absent (s .status)
-    ; held = λ x. let-go j (s .held x)
-    ; readers = λ x. without j (s .readers x)
-    ; writers = λ x. without j (s .writers x)
-    ; edges = λ a b. not (eqb b j) && without j (λ i. s .edges i b) a
-    ; values = s .values
-    ; room = s .room
+    record {
+      slots = s .slots;
+      next = s .next;
+      status = put-at j absent (s .status);
+      held = λ x. let-go j (s .held x);
+      readers = λ x. without j (s .readers x);
+      writers = λ x. without j (s .writers x);
+      edges = λ a b. not (eqb b j) && without j (λ i. s .edges i b) a;
+      values = s .values;
+      room = s .room;
     }
 
 -- a list of jobs removed, one after another
@@ -265,7 +266,6 @@ None else q = q
 (Some r) else q = Some r
 
 infixr 30 _else_
-
 abbrev pub refuse-if : Bool → Refusal → Option Refusal
 refuse-if b r = cond b (Some r) None
 
@@ -334,6 +334,7 @@ refused-state s (abort j) r = s
 refused-state s (retire n) r = s
 refused-state s (peek x) r = s
 
+-- one thing where a call is granted, another where it is refused
 abbrev pub by-refusal : {A : Type 0} → Option Refusal → A → (Refusal → A) → A
 by-refusal None a f = a
 by-refusal (Some r) a f = f r
@@ -361,6 +362,7 @@ put-count s (peek x) = 0
 pub record Steps (s : State) (c : Call) (a : Answer) (t : State) : Type 0 where
   pub answers : a ≡ answer s c
   pub becomes : t ≡ after-call s c (t .room)
+  -- where nothing is put, the room stays
   pub keeps-room : put-count s c ≡ 0 → t .room ≡ s .room
   pub takes-room : s .room ≤ t .room + put-count s c
 

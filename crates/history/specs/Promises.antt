@@ -20,7 +20,7 @@ abbrev pub Wrote : List Access → ℕ → ℕ → Type 0
 Wrote [] i x = ⊥
 Wrote (a ∷ s) i x = ((a .job ≡ i) × (a .item ≡ x) × T (a .writes)) ⊎ Wrote s i x
 
--- a running job holds what it wrote: no running job but j holds item x
+-- a running job holds what it wrote: item x is free for job j if no running job but j wrote it
 abbrev pub FreeFor : List Act → ℕ → ℕ → Type 0
 FreeFor H j x = (i : ℕ) → fate i H ≡ Fate.running → Wrote (accesses H) i x → i ≡ j
 
@@ -42,8 +42,8 @@ pub record Serializable (opening : List ℕ) (H : List Act) (retired : List ℕ)
   pub every-order : (order : List ℕ) → SerialOrder is-committed H order → RunsSerially opening H order (s .values)
   -- the retired jobs, in the order in which they were written, begin a serial order
   pub retired-first : (rest : List ℕ) × SerialOrder is-committed H (retired ++ rest)
-  -- a step of a running job, on an item that no other job holds, is refused for conflict exactly when
-  -- it would close a cycle
+  -- a step of a running job, its item being free for it, is refused for conflict exactly when it would
+  -- close a cycle
   pub exact-read : (j x v : ℕ) → fate j H ≡ Fate.running → FreeFor H j x → RefusedForCycle s H (read j x) (Read j x v)
   pub exact-write : (j x v : ℕ) → fate j H ≡ Fate.running → FreeFor H j x → RefusedForCycle s H (write j x v) (Write j x v)
 

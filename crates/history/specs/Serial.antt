@@ -1,7 +1,7 @@
 -- The serial run: the jobs of an order one after another, each with its reads and writes in the order
 -- in which they were granted. Rests on Conflicts.
 use mathlib.Core.Path.{_≡_}
-use mathlib.Core.Bool.{Bool, true, false, cond}
+use mathlib.Core.Bool.{cond}
 use mathlib.Core.List.{List, [], _∷_, _++_, map}
 use Prim.Native.Nat.{ℕ}
 use lib.Dec.{eqb}

@@ -22,16 +22,16 @@ use Rattle.store.specs.Stores.{at}
 use Rattle.store.specs.Records.{whole, byte-of, mark-of, item-of, value-of, unmarked-from, used-in, UsedFront, held, LastOf, Latest, contents, written, with-record}
 
 -- a marked record is passed over
-pub unmarked-more : (bytes : List ℕ) (n w : ℕ) → n < w → mark-of bytes n ≡ 165 → unmarked-from bytes n (w - n) ≡ unmarked-from bytes (n + 1) (w - (n + 1))
+pub unmarked-more : (bytes : List ℕ) (n w : ℕ) → n < w → eqb (mark-of bytes n) 165 ≡ true → unmarked-from bytes n (w - n) ≡ unmarked-from bytes (n + 1) (w - (n + 1))
 unmarked-more bytes n w h m =
     let e : w - n ≡ suc (w - (n + 1)) = omega arith in
-    rw (e, eq-eqb (mark-of bytes n) 165 m) refl
+    rw (e, m) refl
 
 -- a record with no mark ends the count
-pub unmarked-here : (bytes : List ℕ) (n w : ℕ) → n < w → (mark-of bytes n ≡ 165 → ⊥) → unmarked-from bytes n (w - n) ≡ n
+pub unmarked-here : (bytes : List ℕ) (n w : ℕ) → n < w → eqb (mark-of bytes n) 165 ≡ false → unmarked-from bytes n (w - n) ≡ n
 unmarked-here bytes n w h m =
     let e : w - n ≡ suc (w - (n + 1)) = omega arith in
-    rw (e, ne-eqb (mark-of bytes n) 165 m) refl
+    rw (e, m) refl
 
 -- a byte below the record that is appended stays
 pub below-record : (bytes : List ℕ) (n item value : ℕ) → n < whole bytes → (k : ℕ) → k < n * 8 → getD (with-record bytes n item value) k 0 ≡ getD bytes k 0
@@ -86,12 +86,12 @@ contents-appended bytes items n item value h v l =
     ])
 
 -- the last record decides if it is of the item
-pub held-here : (bytes : List ℕ) (item n last : ℕ) → n ≡ suc last → item-of bytes last ≡ item → held bytes item n ≡ value-of bytes last
-held-here bytes item n last p e = rw (p, eq-eqb (item-of bytes last) item e) refl
+pub held-here : (bytes : List ℕ) (item n last : ℕ) → n ≡ suc last → eqb (item-of bytes last) item ≡ true → held bytes item n ≡ value-of bytes last
+held-here bytes item n last p e = rw (p, e) refl
 
 -- and else those before it
-pub held-before : (bytes : List ℕ) (item n last : ℕ) → n ≡ suc last → (item-of bytes last ≡ item → ⊥) → held bytes item n ≡ held bytes item last
-held-before bytes item n last p ne = rw (p, ne-eqb (item-of bytes last) item ne) refl
+pub held-before : (bytes : List ℕ) (item n last : ℕ) → n ≡ suc last → eqb (item-of bytes last) item ≡ false → held bytes item n ≡ held bytes item last
+held-before bytes item n last p e = rw (p, e) refl
 
 -- there is a value for each item
 pub length-contents : (bytes : List ℕ) (items n : ℕ) → length (contents bytes items n) ≡ items
@@ -119,7 +119,7 @@ used-front-from bytes n (suc k) w marks =
     used-front-from bytes (n + 1) k (omega arith) (below-more (λ i. mark-of bytes i ≡ 165) n marks (eqb-true (mark-of bytes n) 165 e))) (λ e.
     record { within = omega arith; marks = marks; stops = λ l. eqb-false (mark-of bytes n) 165 e })
 
--- the count of used records is of those from the front up to the first with no mark
+-- the count of used records keeps its rule
 pub used-front : (bytes : List ℕ) → UsedFront bytes (used-in bytes)
 used-front bytes = used-front-from bytes 0 (whole bytes) (omega arith) (λ i l. absurd (omega arith))
 

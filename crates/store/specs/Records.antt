@@ -36,8 +36,8 @@ abbrev pub unmarked-from : List ℕ → ℕ → ℕ → ℕ
 unmarked-from bytes n zero = n
 unmarked-from bytes n (suc k) = cond (eqb (mark-of bytes n) 165) (unmarked-from bytes (n + 1) k) n
 
--- how many records are used in bytes that are found so: those from the front up to the first that is
--- not marked
+-- how many records are used in bytes that are found so: the marked ones at the front, as far as they go
+-- without a gap
 abbrev pub used-in : List ℕ → ℕ
 used-in bytes = unmarked-from bytes 0 (whole bytes)
 

@@ -17,8 +17,8 @@ use Rattle.store.specs.declared.store.PutRefused.the-variants.{Outside, NoRoom
 abbrev pub at : List ℕ → ℕ → Option ℕ
 at values item = cond (ltb item (length values)) (Some (getD values item 0)) None
 
--- a put to an item, by its answer: granted, it replaces the item's value and leaves at least the old
--- room less one; refused, it changes nothing
+-- a put to an item, by its answer: granted, it replaces the item's value and takes one of the room at
+-- most; refused, it changes nothing
 abbrev pub Puts : List ℕ → ℕ → ℕ → ℕ → Result (Unit {0}) PutRefused → List ℕ → ℕ → Type 0
 Puts values room item value (Ok _) values′ room′ =
     (item < length values) × (0 < room) × (values′ ≡ set values item value) × (room ≤ room′ + 1)

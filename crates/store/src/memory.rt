@@ -30,13 +30,6 @@ impl<'a> MemoryStore<'a> {
         let MemoryStore { values } = self;
         values
     }
-
-    // Shows the values, in the lent memory.
-    pub fn values(&self) -> &[u32]
-        ensures { λ r. ⌜ now r ≡ memory-values (now (self .entry)) ⌝ }
-    {
-        self.values
-    }
 }
 
 pub impl<'a> Store for MemoryStore<'a> as MemoryAsStore {
@@ -49,16 +42,11 @@ pub impl<'a> Store for MemoryStore<'a> as MemoryAsStore {
     }
 
     fn get(&self, item: u32) -> Option<u32> {
-        let place = item as usize;
-        if place < self.values.len() {
-            Some(self.values[place])
-        } else {
-            None
-        }
+        self.values.get(item as usize).copied()
     }
 
     fn room(&self) -> u64 {
-        4294967295
+        u64::from(u32::MAX)
     }
 
     fn put(&mut self, item: u32, value: u32) -> Result<(), PutRefused>

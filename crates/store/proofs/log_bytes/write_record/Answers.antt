@@ -1,6 +1,6 @@
 use mathlib.Core.Path.{_∙_}
 use Rattle.store.proofs.Records.{put-record}
-use Rattle.store.proofs.log.write_record.Needs as need
+use Rattle.store.proofs.log_bytes.write_record.Needs as need
 
 pub returns : need.returns
 returns c =
