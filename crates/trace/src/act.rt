@@ -1,5 +1,5 @@
-// One thing that was asked of a hub. A job is a database transaction, named by its number; an item
-// is one of the hub's numbered values.
+// One thing that was asked of a hub. A job is a database transaction and goes by its number. An item
+// goes by a number too, and has a value.
 #[derive(Clone, Copy, PartialEq, Eq, Debug)]
 pub enum Act {
     Open { job: u32 },
