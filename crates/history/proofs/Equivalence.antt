@@ -10,6 +10,7 @@ use lib.Dec.{T, eqb}
 use Rattle.std.proofs.shelf.Tests.{cases-lt, eqb-true, eq-eqb, eqb-false, ne-eqb, and-parts, and-from, or-cases, or-left, or-right, not-true, not-from-false}
 use Rattle.trace.specs.declared.act.Act.{Act}
 use Rattle.trace.specs.declared.act.Act.the-variants.{Open, Read, Write, Commit, Abort, Peek, Retire}
+use Rattle.graph.proofs.Paths.{path-map}
 use Rattle.graph.specs.Paths.{Relation, Path, edge, Cycle, _∈_, Forward}
 use Rattle.history.specs.Acts.{Fate, unopened, after, fate-from, fate, Keep, Kept}
 use Rattle.history.specs.Arrangements.{ConflictSerializable, SerializableExactlyWithoutCycle}
@@ -18,7 +19,7 @@ use Rattle.history.specs.Machine.{rising, those, path}
 use Rattle.history.proofs.Arrangements.{arrangement-has-no-cycle}
 use Rattle.history.proofs.Blocks.{order-gives-arrangement}
 use Rattle.history.proofs.Lists.{T-true, true-T, ∈-those, those-∈, ∈-rising, distinct-rising, distinct-those, forward-weaken}
-use Rattle.history.proofs.Paths.{Drawn, path-map, path-sound, path-found, ordered, ordered-only, ordered-all, ordered-distinct, ordered-forward}
+use Rattle.history.proofs.Paths.{Drawn, path-sound, path-found, ordered, ordered-only, ordered-all, ordered-distinct, ordered-forward}
 
 -- the conflict graph as a test
 
