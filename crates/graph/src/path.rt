@@ -79,16 +79,12 @@ impl Found {
     }
 }
 
-// A path of one edge or more from the start to the goal, found breadth first: its nodes from the start on, without
-// the goal at its end. Start and goal may be the same: the path is then a cycle. None is answered where there is no
-// such path.
-pub fn find_path<G: Graph>(graph: &G, start: usize, goal: usize) -> Option<NodeList>
+// The search from a start that is a node of the graph. A node from which an edge leads to the goal ends it.
+fn search<G: Graph>(graph: &G, start: usize, goal: usize) -> Option<NodeList>
+    requires { ⌜ start < G·Graph .size (now graph) ⌝ }
     ensures { λ r. ⌜ Finds (Edges (G·Graph .size (now (graph .entry))) (G·Graph .leads (now (graph .entry)))) start goal r ⌝ }
 {
     let size = graph.size();
-    if start >= size {
-        return None;
-    }
     let mut found = Found::start(start);
     let mut head = 0;
     let mut last = None;
@@ -108,5 +104,18 @@ pub fn find_path<G: Graph>(graph: &G, start: usize, goal: usize) -> Option<NodeL
     match last {
         Some(at) => Some(found.way_to(at)),
         None => None,
+    }
+}
+
+// A path of one edge or more from the start to the goal, found breadth first: its nodes from the start on, without
+// the goal at its end. Start and goal may be the same: the path is then a cycle. None is answered where there is no
+// such path.
+pub fn find_path<G: Graph>(graph: &G, start: usize, goal: usize) -> Option<NodeList>
+    ensures { λ r. ⌜ Finds (Edges (G·Graph .size (now (graph .entry))) (G·Graph .leads (now (graph .entry)))) start goal r ⌝ }
+{
+    if start < graph.size() {
+        search(graph, start, goal)
+    } else {
+        None
     }
 }

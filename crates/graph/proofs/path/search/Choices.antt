@@ -3,7 +3,7 @@ use Prim.Native.Nat.{_-_, _<_, _≤_}
 use Rattle.std.specs.declared.option.Option.the-variants.{None}
 use Rattle.graph.specs.Edges.{Edges}
 use Rattle.graph.proofs.Search.{Searched, Searching}
-use Rattle.graph.proofs.path.find_path.Given as given
+use Rattle.graph.proofs.path.search.Given as given
 
 abbrev pub Inv-loop-to : given.InvT-loop-to
 Inv-loop-to g l =
