@@ -1,0 +1,13 @@
+pub mod Arrangements
+pub mod Blocks
+pub mod Graphs
+pub mod Invariant
+pub mod Laws
+pub mod Lists
+pub mod Marks
+pub mod Paths
+pub mod Records
+pub mod Replay
+pub mod Serializability
+pub mod Turns
+pub mod Values

@@ -25,7 +25,8 @@ pub record Outcome : Type 0 where
 abbrev answered : ℕ → Outcome → Outcome
 answered v o = record { answers = v ∷ o .answers; contents = o .contents }
 
--- requests carried out one after another: a read answers the item's value, a write replaces it
+-- requests carried out one after another: a read is answered by what the item holds, a write replaces
+-- that
 abbrev pub serial : List ℕ → List Request → Outcome
 serial values [] = record { answers = []; contents = values }
 serial values (read x ∷ s) = answered (getD values x 0) (serial values s)

@@ -1,5 +1,5 @@
 // One thing that was asked of a hub. A job is a database transaction, named by its number; an item
-// is a numbered place that holds a value.
+// is one of the hub's numbered values.
 #[derive(Clone, Copy, PartialEq, Eq, Debug)]
 pub enum Act {
     Open { job: u32 },
