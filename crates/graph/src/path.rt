@@ -1,7 +1,7 @@
 // Path search, breadth first.
 ghost use Prim.Native.Nat.{ℕ, _+_, _<_, _≤_};
 ghost use denote.Ref.{now};
-ghost use lib.ListN.{getD};
+ghost use lib.ListN.{length, getD};
 ghost use mathlib.Core.Bool.{true, false};
 ghost use mathlib.Core.List.{[]};
 ghost use mathlib.Core.Path.{_≡_};
@@ -64,6 +64,7 @@ impl Found {
     fn way_to(&self, node: usize) -> NodeList
         requires { ⌜ (node < 64) × (getD (now self .depth) node 0 < 64) × ((k : ℕ) → getD (now self .from) k 0 < 64) ⌝ }
         ensures count { λ r. ⌜ r .count ≤ 64 ⌝ }
+        ensures places { λ r. ⌜ length (r .nodes) ≡ 64 ⌝ }
         ensures way { λ r. ⌜ listed r ≡ wayBefore (now (self .entry) .from) (getD (now (self .entry) .depth) node 0 + 1) node [] ⌝ }
     {
         let mut nodes = [0; 64];

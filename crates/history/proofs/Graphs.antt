@@ -50,40 +50,42 @@ pub retired-weaken : (F G : ℕ → Fate) (s t : List Access) (R : List ℕ) →
     → ((j : ℕ) → F j ≡ Fate.committed → G j ≡ Fate.committed)
     → ((i j : ℕ) → Among G t i j → Among F s i j) → Retired G t R
 retired-weaken F G s t R r stay fewer =
-    record
-    { committed = λ j h. stay j (r .committed j h)
-    ; distinct = r .distinct
-    ; closed = λ i j e h. r .closed i j (fewer i j e) h
-    ; forward = forward-weaken (Among F s) (Among G t) R (λ x y h k. fewer y x) (r .forward)
-    ; acyclic = λ c. r .acyclic (c .0, path-map fewer (c .1))
+    record {
+      committed = λ j h. stay j (r .committed j h);
+      distinct = r .distinct;
+      closed = λ i j e h. r .closed i j (fewer i j e) h;
+      forward = forward-weaken (Among F s) (Among G t) R (λ x y h k. fewer y x) (r .forward);
+      acyclic = λ c. r .acyclic (c .0, path-map fewer (c .1));
     }
 
 -- a job that is committed and that no living job leads into retires
 pub retired-more : (F : ℕ → Fate) (s : List Access) (R : List ℕ) (j : ℕ) → Retired F s R
     → F j ≡ Fate.committed → (j ∈ R → ⊥) → ((i : ℕ) → Among F s i j → i ∈ R) → Retired F s (R ++ j ∷ [])
 retired-more F s R j r c out free =
-    record
-    { committed = λ i h. elim (∈-split i R (j ∷ []) h)
-        [ inl k ↦ r .committed i k | inr (inl e) ↦ ap F e ∙ c | inr (inr k) ↦ absurd k ]
-    ; distinct = distinct-join R (j ∷ []) (r .distinct) ((λ h. h), tt) (λ x h k. apart x h k)
-    ; closed = λ a b e h. ∈-left a R (j ∷ []) (elim (∈-split b R (j ∷ []) h)
-        [ inl k ↦ r .closed a b e k
+    record {
+      committed = λ i h. elim (∈-split i R (j ∷ []) h)
+          [ inl k ↦ r .committed i k | inr (inl e) ↦ ap F e ∙ c | inr (inr k) ↦ absurd k ];
+      distinct = distinct-join R (j ∷ []) (r .distinct) ((λ h. h), tt) (λ x h k. apart x h k);
+      closed = λ a b e h. ∈-left a R (j ∷ []) (elim (∈-split b R (j ∷ []) h) [
+        | inl k ↦ r .closed a b e k
         | inr (inl q) ↦ free a (subst (λ (z : ℕ). Among F s a z) q e)
-        | inr (inr k) ↦ absurd k ])
-    ; forward = forward-join (Among F s) R (j ∷ []) (r .forward) ((λ y h. absurd h), tt) back
-    ; acyclic = r .acyclic
+        | inr (inr k) ↦ absurd k
+      ]);
+      forward = forward-join (Among F s) R (j ∷ []) (r .forward) ((λ y h. absurd h), tt) back;
+      acyclic = r .acyclic;
     }
   where
     apart : (x : ℕ) → x ∈ R → x ∈ (j ∷ []) → ⊥
     apart x h (inl e) = out (subst (λ (z : ℕ). z ∈ R) e h)
     apart x h (inr k) = k
+
     back : (x y : ℕ) → x ∈ R → y ∈ (j ∷ []) → Among F s y x → ⊥
     back x y h (inl e) a = out (subst (λ (z : ℕ). z ∈ R) e (r .closed y x a h))
     back x y h (inr k) a = k
 
 -- one step more, of a job that runs
 module _ (F : ℕ → Fate) (s : List Access) (R : List ℕ) (a : Access) (r : Retired F s R)
-  (runs : F (a .job) ≡ Fate.running) where
+    (runs : F (a .job) ≡ Fate.running) where
   -- its edges lead into that job
   new-edges : (i j : ℕ) → Among F (s ++ a ∷ []) i j → Among F s i j ⊎ (j ≡ a .job)
   new-edges i j e =
@@ -100,11 +102,11 @@ module _ (F : ℕ → Fate) (s : List Access) (R : List ℕ) (a : Access) (r : R
     pub path-from-cycle : Cycle (Among F (s ++ a ∷ [])) → Path (Drawn e) (a .job) (a .job)
     path-from-cycle c =
         path-stays (Among F (s ++ a ∷ [])) (Drawn e) (λ i. i ∈ R → ⊥)
-          (λ i j k o.
-            let out : j ∈ R → ⊥ = λ h. o (r .closed i j (old-into-retired i j k h) h) in
-            (out, ed .all i j (k .0, o) (k .1, out) (k .2)))
-          (not-retired (a .job) refl)
-          (cycle-by-new (Among F s) (Among F (s ++ a ∷ [])) (a .job) new-edges (r .acyclic) c)
+        (λ i j k o.
+        let out : j ∈ R → ⊥ = λ h. o (r .closed i j (old-into-retired i j k h) h) in
+        (out, ed .all i j (k .0, o) (k .1, out) (k .2)))
+        (not-retired (a .job) refl)
+        (cycle-by-new (Among F s) (Among F (s ++ a ∷ [])) (a .job) new-edges (r .acyclic) c)
 
     pub cycle-from-path : Path (Drawn e) (a .job) (a .job) → Cycle (Among F (s ++ a ∷ []))
     cycle-from-path p =
@@ -113,12 +115,12 @@ module _ (F : ℕ → Fate) (s : List Access) (R : List ℕ) (a : Access) (r : R
     -- so where there is none, nothing is lost
     pub retired-step : (Path (Drawn e) (a .job) (a .job) → ⊥) → Retired F (s ++ a ∷ []) R
     retired-step no-path =
-        record
-        { committed = r .committed
-        ; distinct = r .distinct
-        ; closed = λ i j k h. r .closed i j (old-into-retired i j k h) h
-        ; forward =
-            forward-weaken (Among F s) (Among F (s ++ a ∷ [])) R (λ x y h k. λ q. old-into-retired y x q h)
-              (r .forward)
-        ; acyclic = λ c. no-path (path-from-cycle c)
+        record {
+          committed = r .committed;
+          distinct = r .distinct;
+          closed = λ i j k h. r .closed i j (old-into-retired i j k h) h;
+          forward =
+              forward-weaken (Among F s) (Among F (s ++ a ∷ [])) R (λ x y h k. λ q. old-into-retired y x q h)
+              (r .forward);
+          acyclic = λ c. no-path (path-from-cycle c);
         }

@@ -86,11 +86,11 @@ pub steps : (s : State) (c : Call) (left : ℕ) → (put-count s c ≡ 0 → lef
     → Steps s c (answer s c) (after-call s c left)
 steps s c left k l =
     let e = after-room s c left k in
-    record
-    { answers = refl
-    ; becomes = ap (λ (z : ℕ). after-call s c z) (sym e)
-    ; keeps-room = λ z. e ∙ k z
-    ; takes-room = subst (λ (z : ℕ). s .room ≤ z + put-count s c) (sym e) l
+    record {
+      answers = refl;
+      becomes = ap (λ (z : ℕ). after-call s c z) (sym e);
+      keeps-room = λ z. e ∙ k z;
+      takes-room = subst (λ (z : ℕ). s .room ≤ z + put-count s c) (sym e) l;
     }
 
 same-but-room : (s : State) (c : Call) (l m : ℕ) → but-room (granted-state s c l) ≡ but-room (granted-state s c m)
@@ -109,17 +109,17 @@ after-but-room s c l m = go (refusal s c)
   where
     go : (ρ : Option Refusal)
         → but-room (by-refusal ρ (granted-state s c l) (λ r. refused-state s c r))
-          ≡ but-room (by-refusal ρ (granted-state s c m) (λ r. refused-state s c r))
+        ≡ but-room (by-refusal ρ (granted-state s c m) (λ r. refused-state s c r))
     go None = same-but-room s c l m
     go (Some r) = refl
 
 pub one-outcome : (s : State) (c : Call) → OneOutcome s c
 one-outcome s c =
-    record
-    { some = (answer s c, after-call s c (s .room), steps s c (s .room) (λ e. refl) (omega arith))
-    ; same-answer = λ a b t u p q. p .answers ∙ sym (q .answers)
-    ; same-state = λ a b t u p q.
-        ap but-room (p .becomes) ∙ after-but-room s c (t .room) (u .room) ∙ sym (ap but-room (q .becomes))
+    record {
+      some = (answer s c, after-call s c (s .room), steps s c (s .room) (λ e. refl) (omega arith));
+      same-answer = λ a b t u p q. p .answers ∙ sym (q .answers);
+      same-state = λ a b t u p q.
+          ap but-room (p .becomes) ∙ after-but-room s c (t .room) (u .room) ∙ sym (ap but-room (q .becomes));
     }
 
 -- WHAT A REFUSAL CHANGES

@@ -1,4 +1,4 @@
--- Lists of numbers: membership, tests over them, numbers that rise. 
+-- Lists of numbers: membership, tests over them, numbers that rise.
 use mathlib.Core.Path.{_≡_, refl, sym, _∙_, ap}
 use mathlib.Core.Logic.{_⊎_, inl, inr}
 use mathlib.Core.Bool.{Bool, true, false, cond, not, _&&_, _||_}
@@ -75,21 +75,23 @@ module _ (p : ℕ → Bool) where
       let e : p x ≡ true = ap p (sym k) ∙ q in
       rw (those-yes x xs e) (inl k)
   ∈-those a (x ∷ xs) (inr k) q =
-      elim (cases-bool (p x))
-      [ inl e ↦ rw (those-yes x xs e) (inr (∈-those a xs k q))
-      | inr e ↦ rw (those-no x xs e) (∈-those a xs k q) ]
+      elim (cases-bool (p x)) [
+        | inl e ↦ rw (those-yes x xs e) (inr (∈-those a xs k q))
+        | inr e ↦ rw (those-no x xs e) (∈-those a xs k q)
+      ]
 
   pub those-∈ : (a : ℕ) (xs : List ℕ) → a ∈ those p xs → (a ∈ xs) × (p a ≡ true)
   unfolding those
   those-∈ a [] h = absurd h
   those-∈ a (x ∷ xs) h =
-      elim (cases-bool (p x))
-      [ inl e ↦
-          let k : (a ≡ x) ⊎ (a ∈ those p xs) = rw (those-yes x xs e) at h in
-          elim k [ inl q ↦ (inl q, ap p q ∙ e) | inr q ↦ (inr (those-∈ a xs q .0), those-∈ a xs q .1) ]
-      | inr e ↦
-          let k : a ∈ those p xs = rw (those-no x xs e) at h in
-          (inr (those-∈ a xs k .0), those-∈ a xs k .1) ]
+      elim (cases-bool (p x)) [
+        | inl e ↦
+            let k : (a ≡ x) ⊎ (a ∈ those p xs) = rw (those-yes x xs e) at h in
+            elim k [ inl q ↦ (inl q, ap p q ∙ e) | inr q ↦ (inr (those-∈ a xs q .0), those-∈ a xs q .1) ]
+        | inr e ↦
+            let k : a ∈ those p xs = rw (those-no x xs e) at h in
+            (inr (those-∈ a xs k .0), those-∈ a xs k .1)
+      ]
 
   pub any-true : (xs : List ℕ) → any p xs ≡ true → (a : ℕ) × (a ∈ xs) × (p a ≡ true)
   unfolding any
@@ -108,18 +110,20 @@ module _ (p : ℕ → Bool) where
   unfolding those
   distinct-those [] d = tt
   distinct-those (x ∷ xs) d =
-      elim (cases-bool (p x))
-      [ inl e ↦ rw (those-yes x xs e) ((λ h. d .0 (those-∈ x xs h .0)), distinct-those xs (d .1))
-      | inr e ↦ rw (those-no x xs e) (distinct-those xs (d .1)) ]
+      elim (cases-bool (p x)) [
+        | inl e ↦ rw (those-yes x xs e) ((λ h. d .0 (those-∈ x xs h .0)), distinct-those xs (d .1))
+        | inr e ↦ rw (those-no x xs e) (distinct-those xs (d .1))
+      ]
 
 -- numbers that rise
 pub ∈-rising : (a n b : ℕ) → a ≤ b → b < a + n → b ∈ rising a n
 unfolding rising
 ∈-rising a zero b h k = absurd (omega arith)
 ∈-rising a (suc n) b h k =
-    elim (cases-eq b a)
-    [ inl e ↦ inl e
-    | inr e ↦ inr (∈-rising (suc a) n b (omega arith) (omega arith)) ]
+    elim (cases-eq b a) [
+      | inl e ↦ inl e
+      | inr e ↦ inr (∈-rising (suc a) n b (omega arith) (omega arith))
+    ]
 
 pub rising-∈ : (a n b : ℕ) → b ∈ rising a n → (a ≤ b) × (b < a + n)
 unfolding rising
@@ -148,9 +152,10 @@ pub ascending-those : (p : ℕ → Bool) (xs : List ℕ) → Ascending xs → As
 unfolding those
 ascending-those p [] a = tt
 ascending-those p (x ∷ xs) a =
-    elim (cases-bool (p x))
-    [ inl e ↦ rw (those-yes p x xs e) ((λ y h. a .0 y (those-∈ p y xs h .0)), ascending-those p xs (a .1))
-    | inr e ↦ rw (those-no p x xs e) (ascending-those p xs (a .1)) ]
+    elim (cases-bool (p x)) [
+      | inl e ↦ rw (those-yes p x xs e) ((λ y h. a .0 y (those-∈ p y xs h .0)), ascending-those p xs (a .1))
+      | inr e ↦ rw (those-no p x xs e) (ascending-those p xs (a .1))
+    ]
 
 -- so the first is the smallest
 pub first-smallest : (j : ℕ) (js : List ℕ) → Ascending (j ∷ js) → (i : ℕ) → i ∈ (j ∷ js) → j ≤ i
@@ -162,28 +167,32 @@ module _ (E : Relation) where
   pub forward-join : (xs ys : List ℕ) → Forward E xs → Forward E ys
       → ((x y : ℕ) → x ∈ xs → y ∈ ys → E y x → ⊥) → Forward E (xs ++ ys)
   forward-join [] ys f g c = g
-  forward-join (x ∷ xs) ys f g c =
-      ( (λ y h e. elim (∈-split y xs ys h) [ inl k ↦ f .0 y k e | inr k ↦ c x y (inl refl) k e ])
-      , forward-join xs ys (f .1) g (λ a b h. c a b (inr h)) )
+  forward-join (x ∷ xs) ys f g c = (
+    (λ y h e. elim (∈-split y xs ys h) [ inl k ↦ f .0 y k e | inr k ↦ c x y (inl refl) k e ]),
+    forward-join xs ys (f .1) g (λ a b h. c a b (inr h)),
+  )
 
   pub forward-those : (p : ℕ → Bool) (xs : List ℕ) → Forward E xs → Forward E (those p xs)
   unfolding those
   forward-those p [] f = tt
   forward-those p (x ∷ xs) f =
-      elim (cases-bool (p x))
-      [ inl e ↦ rw (those-yes p x xs e) ((λ y h. f .0 y (those-∈ p y xs h .0)), forward-those p xs (f .1))
-      | inr e ↦ rw (those-no p x xs e) (forward-those p xs (f .1)) ]
+      elim (cases-bool (p x)) [
+        | inl e ↦ rw (those-yes p x xs e) ((λ y h. f .0 y (those-∈ p y xs h .0)), forward-those p xs (f .1))
+        | inr e ↦ rw (those-no p x xs e) (forward-those p xs (f .1))
+      ]
 
 pub forward-weaken : (E D : Relation) (xs : List ℕ)
     → ((x y : ℕ) → x ∈ xs → y ∈ xs → D y x → E y x) → Forward E xs → Forward D xs
 forward-weaken E D [] w f = tt
-forward-weaken E D (x ∷ xs) w f =
-    ( (λ y h d. f .0 y h (w x y (inl refl) (inr h) d))
-    , forward-weaken E D xs (λ a b h k. w a b (inr h) (inr k)) (f .1) )
+forward-weaken E D (x ∷ xs) w f = (
+  (λ y h d. f .0 y h (w x y (inl refl) (inr h) d)),
+  forward-weaken E D xs (λ a b h k. w a b (inr h) (inr k)) (f .1),
+)
 
 pub distinct-join : (xs ys : List ℕ) → Distinct xs → Distinct ys → ((x : ℕ) → x ∈ xs → x ∈ ys → ⊥)
     → Distinct (xs ++ ys)
 distinct-join [] ys d e c = e
-distinct-join (x ∷ xs) ys d e c =
-    ( (λ h. elim (∈-split x xs ys h) [ inl k ↦ d .0 k | inr k ↦ c x (inl refl) k ])
-    , distinct-join xs ys (d .1) e (λ a h. c a (inr h)) )
+distinct-join (x ∷ xs) ys d e c = (
+  (λ h. elim (∈-split x xs ys h) [ inl k ↦ d .0 k | inr k ↦ c x (inl refl) k ]),
+  distinct-join xs ys (d .1) e (λ a h. c a (inr h)),
+)

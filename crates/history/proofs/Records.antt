@@ -151,14 +151,16 @@ module _ (a : Access) where
   unfolding kept
   kept-more-yes k [] e = rw e
   kept-more-yes k (b ∷ s) e =
-      elim (cases-bool (k (b .job)))
-      [ inl q ↦ rw (kept-yes k b (s ++ a ∷ []) q, kept-yes k b s q) (ap (λ (t : List Access). b ∷ t) (kept-more-yes k s e))
-      | inr q ↦ rw (kept-no k b (s ++ a ∷ []) q, kept-no k b s q) (kept-more-yes k s e) ]
+      elim (cases-bool (k (b .job))) [
+        | inl q ↦ rw (kept-yes k b (s ++ a ∷ []) q, kept-yes k b s q) (ap (λ (t : List Access). b ∷ t) (kept-more-yes k s e))
+        | inr q ↦ rw (kept-no k b (s ++ a ∷ []) q, kept-no k b s q) (kept-more-yes k s e)
+      ]
 
   pub kept-more-no : (k : ℕ → Bool) (s : List Access) → k (a .job) ≡ false → kept k (s ++ a ∷ []) ≡ kept k s
   unfolding kept
   kept-more-no k [] e = rw e
   kept-more-no k (b ∷ s) e =
-      elim (cases-bool (k (b .job)))
-      [ inl q ↦ rw (kept-yes k b (s ++ a ∷ []) q, kept-yes k b s q) (ap (λ (t : List Access). b ∷ t) (kept-more-no k s e))
-      | inr q ↦ rw (kept-no k b (s ++ a ∷ []) q, kept-no k b s q) (kept-more-no k s e) ]
+      elim (cases-bool (k (b .job))) [
+        | inl q ↦ rw (kept-yes k b (s ++ a ∷ []) q, kept-yes k b s q) (ap (λ (t : List Access). b ∷ t) (kept-more-no k s e))
+        | inr q ↦ rw (kept-no k b (s ++ a ∷ []) q, kept-no k b s q) (kept-more-no k s e)
+      ]

@@ -43,7 +43,7 @@ replay-join (a ∷ s) t c m d p q = (p .0, replay-join s t (does a c) m d (p .1)
 module _ (x y v w : ℕ) (c : List ℕ) where
   swap-writes : (wa wb : Bool) → (x ≡ y → T (wa || wb) → ⊥)
       → cond wb (set (cond wa (set c x v) c) y w) (cond wa (set c x v) c)
-        ≡ cond wa (set (cond wb (set c y w) c) x v) (cond wb (set c y w) c)
+      ≡ cond wa (set (cond wb (set c y w) c) x v) (cond wb (set c y w) c)
   swap-writes true true n = set-comm c x y v w (λ e. n e tt)
   swap-writes true false n = refl
   swap-writes false true n = refl
@@ -66,11 +66,14 @@ module _ (x y v w : ℕ) (c : List ℕ) where
 
 pub replay-swap : (a b : Access) (s : List Access) (c d : List ℕ)
     → (a .job ≡ b .job → ⊥) → (Conflict a b → ⊥) → Replay c (a ∷ b ∷ s) d → Replay c (b ∷ a ∷ s) d
-replay-swap a b s c d apart calm (fa, (fb, r)) =
-    ( (λ e. fb e ∙ swap-read (a .item) (b .item) (a .value) (b .value) c (a .writes) (b .writes) free e)
-    , ( (λ e. fa e ∙ sym (swap-read-back (a .item) (b .item) (a .value) (b .value) c (a .writes) (b .writes) free e))
-      , subst (λ (z : List ℕ). Replay z s d)
-          (swap-writes (a .item) (b .item) (a .value) (b .value) c (a .writes) (b .writes) free) r ) )
+replay-swap a b s c d apart calm (fa, (fb, r)) = (
+  (λ e. fb e ∙ swap-read (a .item) (b .item) (a .value) (b .value) c (a .writes) (b .writes) free e),
+  (
+    (λ e. fa e ∙ sym (swap-read-back (a .item) (b .item) (a .value) (b .value) c (a .writes) (b .writes) free e)),
+    subst (λ (z : List ℕ). Replay z s d)
+        (swap-writes (a .item) (b .item) (a .value) (b .value) c (a .writes) (b .writes) free) r,
+  ),
+)
   where
     free : a .item ≡ b .item → T (a .writes || b .writes) → ⊥
     free e t = calm (apart, e, t)
@@ -110,16 +113,17 @@ pub replay-past : (a : Access) (j : ℕ) (t u : List Access) (c d : List ℕ)
     → Replay c (a ∷ of-job j t ++ u) d → Replay c (of-job j t ++ a ∷ u) d
 replay-past a j [] u c d apart calm r = r
 replay-past a j (b ∷ t) u c d apart calm r =
-    elim (cases-eq (b .job) j)
-    [ inl e ↦
-        rw (of-job-yes j b t e)
+    elim (cases-eq (b .job) j) [
+      | inl e ↦
+          rw (of-job-yes j b t e)
           (let q : Replay c (a ∷ b ∷ of-job j t ++ u) d = rw (of-job-yes j b t e) at r in
-           let w = replay-swap a b (of-job j t ++ u) c d (λ k. apart (k ∙ e)) (λ k. calm (inl (e, k))) q in
-           (w .0, replay-past a j t u (does b c) d apart (λ k. calm (inr k)) (w .1)))
-    | inr n ↦
-        rw (of-job-no j b t n)
+          let w = replay-swap a b (of-job j t ++ u) c d (λ k. apart (k ∙ e)) (λ k. calm (inl (e, k))) q in
+          (w .0, replay-past a j t u (does b c) d apart (λ k. calm (inr k)) (w .1)))
+      | inr n ↦
+          rw (of-job-no j b t n)
           (let q : Replay c (a ∷ of-job j t ++ u) d = rw (of-job-no j b t n) at r in
-           replay-past a j t u c d apart (λ k. calm (inr k)) q) ]
+          replay-past a j t u c d apart (λ k. calm (inr k)) q)
+    ]
 
 -- where no edge leads into a job, all its accesses go to the front
 pub replay-front : (j : ℕ) (s : List Access) (c d : List ℕ) → ((i : ℕ) → Leads s i j → ⊥)
@@ -128,11 +132,12 @@ unfolding kept
 replay-front j [] c d first r = r
 replay-front j (a ∷ s) c d first r =
     let k = replay-front j s (does a c) d (λ i h. first i (inr h)) (r .1) in
-    elim (cases-eq (a .job) j)
-    [ inl e ↦ rw (of-job-yes j a s e, others-no j a s e) (r .0, k)
-    | inr n ↦
-        rw (of-job-no j a s n, others-yes j a s n)
-          (replay-past a j s (others j s) c d n (λ h. first (a .job) (inl (refl, h))) (r .0, k)) ]
+    elim (cases-eq (a .job) j) [
+      | inl e ↦ rw (of-job-yes j a s e, others-no j a s e) (r .0, k)
+      | inr n ↦
+          rw (of-job-no j a s n, others-yes j a s n)
+          (replay-past a j s (others j s) c d n (λ h. first (a .job) (inl (refl, h))) (r .0, k))
+    ]
 
 -- the job of each access stands in the list
 abbrev pub ByJobs : List ℕ → List Access → Type 0
@@ -144,21 +149,23 @@ pub meets-kept : (k : ℕ → Bool) (a : Access) (j : ℕ) (s : List Access) →
 unfolding kept
 meets-kept k a j [] h = h
 meets-kept k a j (b ∷ s) h =
-    elim (cases-bool (k (b .job)))
-    [ inl e ↦
-        let g : Meets a j (b ∷ kept k s) = rw (kept-yes k b s e) at h in
-        elim g [ inl q ↦ inl q | inr q ↦ inr (meets-kept k a j s q) ]
-    | inr e ↦ let g : Meets a j (kept k s) = rw (kept-no k b s e) at h in inr (meets-kept k a j s g) ]
+    elim (cases-bool (k (b .job))) [
+      | inl e ↦
+          let g : Meets a j (b ∷ kept k s) = rw (kept-yes k b s e) at h in
+          elim g [ inl q ↦ inl q | inr q ↦ inr (meets-kept k a j s q) ]
+      | inr e ↦ let g : Meets a j (kept k s) = rw (kept-no k b s e) at h in inr (meets-kept k a j s g)
+    ]
 
 pub leads-kept : (k : ℕ → Bool) (s : List Access) (i j : ℕ) → Leads (kept k s) i j → Leads s i j
 unfolding kept
 leads-kept k [] i j h = h
 leads-kept k (b ∷ s) i j h =
-    elim (cases-bool (k (b .job)))
-    [ inl e ↦
-        let g : Leads (b ∷ kept k s) i j = rw (kept-yes k b s e) at h in
-        elim g [ inl q ↦ inl (q .0, meets-kept k b j s (q .1)) | inr q ↦ inr (leads-kept k s i j q) ]
-    | inr e ↦ let g : Leads (kept k s) i j = rw (kept-no k b s e) at h in inr (leads-kept k s i j g) ]
+    elim (cases-bool (k (b .job))) [
+      | inl e ↦
+          let g : Leads (b ∷ kept k s) i j = rw (kept-yes k b s e) at h in
+          elim g [ inl q ↦ inl (q .0, meets-kept k b j s (q .1)) | inr q ↦ inr (leads-kept k s i j q) ]
+      | inr e ↦ let g : Leads (kept k s) i j = rw (kept-no k b s e) at h in inr (leads-kept k s i j g)
+    ]
 
 -- an edge leads from a job that accessed something
 pub leads-from : (js : List ℕ) (s : List Access) (i j : ℕ) → ByJobs js s → Leads s i j → i ∈ js
@@ -181,9 +188,10 @@ by-others : (j : ℕ) (js : List ℕ) (s : List Access) → ByJobs (j ∷ js) s 
 unfolding kept
 by-others j js [] b = tt
 by-others j js (a ∷ s) (b, bs) =
-    elim (cases-eq (a .job) j)
-    [ inl e ↦ rw (others-no j a s e) (by-others j js s bs)
-    | inr n ↦ rw (others-yes j a s n) (there n b, by-others j js s bs) ]
+    elim (cases-eq (a .job) j) [
+      | inl e ↦ rw (others-no j a s e) (by-others j js s bs)
+      | inr n ↦ rw (others-yes j a s n) (there n b, by-others j js s bs)
+    ]
   where
     there : (a .job ≡ j → ⊥) → a .job ∈ (j ∷ js) → a .job ∈ js
     there n (inl e) = absurd (n e)
@@ -194,21 +202,23 @@ of-kept : (k : ℕ → Bool) (j : ℕ) (s : List Access) → k j ≡ true → of
 unfolding kept
 of-kept k j [] e = refl
 of-kept k j (a ∷ s) e =
-    elim (cases-eq (a .job) j)
-    [ inl q ↦
-        rw (kept-yes k a s (ap k q ∙ e), of-job-yes j a (kept k s) q, of-job-yes j a s q)
+    elim (cases-eq (a .job) j) [
+      | inl q ↦
+          rw (kept-yes k a s (ap k q ∙ e), of-job-yes j a (kept k s) q, of-job-yes j a s q)
           (ap (λ (t : List Access). a ∷ t) (of-kept k j s e))
-    | inr n ↦
-        elim (cases-bool (k (a .job)))
-        [ inl q ↦ rw (kept-yes k a s q, of-job-no j a (kept k s) n, of-job-no j a s n) (of-kept k j s e)
-        | inr q ↦ rw (kept-no k a s q, of-job-no j a s n) (of-kept k j s e) ] ]
+      | inr n ↦
+          elim (cases-bool (k (a .job))) [
+            | inl q ↦ rw (kept-yes k a s q, of-job-no j a (kept k s) n, of-job-no j a s n) (of-kept k j s e)
+            | inr q ↦ rw (kept-no k a s q, of-job-no j a s n) (of-kept k j s e)
+          ]
+    ]
 
 pub in-order-kept : (k : ℕ → Bool) (order : List ℕ) (s : List Access) → ((j : ℕ) → j ∈ order → k j ≡ true)
     → in-order order (kept k s) ≡ in-order order s
 in-order-kept k [] s h = refl
 in-order-kept k (j ∷ order) s h =
     ap₂ (λ (t u : List Access). t ++ u) (of-kept k j s (h j (inl refl)))
-      (in-order-kept k order s (λ i q. h i (inr q)))
+    (in-order-kept k order s (λ i q. h i (inr q)))
 
 -- every order in which no edge leads back replays, if the accesses do as they stand
 pub replay-order : (order : List ℕ) (s : List Access) (c d : List ℕ) → Distinct order → ByJobs order s
@@ -219,14 +229,14 @@ replay-order (j ∷ order) s c d dis by fwd r =
     let w = replay-front j s c d into r in
     let p = replay-split (of-job j s) (others j s) c d w in
     let q =
-          replay-order order (others j s) (p .0) d (dis .1) (by-others j order s by)
-            (forward-weaken (Leads s) (Leads (others j s)) order
-              (λ x y h k. leads-kept (λ i. not (eqb i j)) s y x) (fwd .1)) (p .2) in
+    replay-order order (others j s) (p .0) d (dis .1) (by-others j order s by)
+    (forward-weaken (Leads s) (Leads (others j s)) order
+    (λ x y h k. leads-kept (λ i. not (eqb i j)) s y x) (fwd .1)) (p .2) in
     let e : in-order order (others j s) ≡ in-order order s =
-          in-order-kept (λ i. not (eqb i j)) order s
-            (λ i h. ap not (ne-eqb i j (λ k. dis .0 (subst (λ (z : ℕ). z ∈ order) k h)))) in
+    in-order-kept (λ i. not (eqb i j)) order s
+    (λ i h. ap not (ne-eqb i j (λ k. dis .0 (subst (λ (z : ℕ). z ∈ order) k h)))) in
     replay-join (of-job j s) (in-order order s) c (p .0) d (p .1)
-      (subst (λ (z : List Access). Replay (p .0) z d) e q)
+    (subst (λ (z : List Access). Replay (p .0) z d) e q)
   where
     into : (i : ℕ) → Leads s i j → ⊥
     into i h = go (leads-from (j ∷ order) s i j by h)
@@ -247,10 +257,11 @@ replay-serial (a ∷ s) c d r =
         → serial (does a c) (map request s) ≡ record { answers = values-read s; contents = d }
         → serial c (map request (a ∷ s)) ≡ record { answers = values-read (a ∷ s); contents = d }
     written e w = rw e (rw e at w)
+
     was-read : a .writes ≡ false
         → serial (does a c) (map request s) ≡ record { answers = values-read s; contents = d }
         → serial c (map request (a ∷ s)) ≡ record { answers = values-read (a ∷ s); contents = d }
     was-read e w =
         rw e
-          (let v : serial c (map request s) ≡ record { answers = values-read s; contents = d } = rw e at w in
-           λ i. record { answers = sym (r .0 e) i ∷ (v i) .answers; contents = (v i) .contents })
+        (let v : serial c (map request s) ≡ record { answers = values-read s; contents = d } = rw e at w in
+        λ i. record { answers = sym (r .0 e) i ∷ (v i) .answers; contents = (v i) .contents })

@@ -80,17 +80,17 @@ module _ (opening : List ℕ) (H : List Act) (R : List ℕ) (st : State) (v : Ho
   every-order order so =
       let r = v .plays counts (record { counted = λ j e. rw e refl; left-out = λ j e. rw e refl }) in
       let same : r .0 ≡ st .values =
-            ext-getD 0 (r .0) (st .values) (r .2 .long) (λ x l. r .2 .shows x ∙ nothing-laid x) in
+      ext-getD 0 (r .0) (st .values) (r .2 .long) (λ x l. r .2 .shows x ∙ nothing-laid x) in
       let w =
-            replay-order order (kept counts (accesses H)) opening (r .0) (so .distinct)
-              (by-jobs order (so .all) (accesses H))
-              (forward-weaken (Edge is-committed H) (Leads (kept counts (accesses H))) order
-                (λ x y hx hy l. (so .only y hy, so .only x hx, leads-kept counts (accesses H) y x l)) (so .forward))
-              (r .1) in
+      replay-order order (kept counts (accesses H)) opening (r .0) (so .distinct)
+      (by-jobs order (so .all) (accesses H))
+      (forward-weaken (Edge is-committed H) (Leads (kept counts (accesses H))) order
+      (λ x y hx hy l. (so .only y hy, so .only x hx, leads-kept counts (accesses H) y x l)) (so .forward))
+      (r .1) in
       let e : in-order order (kept counts (accesses H)) ≡ in-order order (accesses H) =
-            in-order-kept counts order (accesses H) (λ j h. T-true (counts j) (so .only j h)) in
+      in-order-kept counts order (accesses H) (λ j h. T-true (counts j) (so .only j h)) in
       replay-serial (in-order order (accesses H)) opening (st .values)
-        (subst₂ (λ (t : List Access) (c : List ℕ). Replay opening t c) e same w)
+      (subst₂ (λ (t : List Access) (c : List ℕ). Replay opening t c) e same w)
 
   -- THE RETIRED JOBS BEGIN A SERIAL ORDER
 
@@ -104,12 +104,12 @@ module _ (opening : List ℕ) (H : List Act) (R : List ℕ) (st : State) (v : Ho
   reach-found : (i j : ℕ) → Path (Drawn (st .edges)) i j → reach i j ≡ true
   reach-found i j =
       path-found (st .edges) (jobs st) i j
-        (λ a b e. lives-listed opening F (accesses H) R st v a (v .drawing .only a b e .0))
+      (λ a b e. lives-listed opening F (accesses H) R st v a (v .drawing .only a b e .0))
 
   no-cycle : Cycle (Drawn (st .edges)) → ⊥
   no-cycle c =
       v .graph .acyclic
-        (c .0, path-map (λ i j e. let q = v .drawing .only i j e in (q .0 .0, q .1 .0, q .2)) (c .1))
+      (c .0, path-map (λ i j e. let q = v .drawing .only i j e in (q .0 .0, q .1 .0, q .2)) (c .1))
 
   -- the present jobs that are committed
   left : List ℕ
@@ -141,9 +141,9 @@ module _ (opening : List ℕ) (H : List Act) (R : List ℕ) (st : State) (v : Ho
   unfolding left
   left-all j t n =
       ∈-those (λ i. has-committed (st .status i)) j (jobs st)
-        (lives-listed opening F (accesses H) R st v j (not-kept (F j) t, n))
-        (ap has-committed (v .statuses j)
-          ∙ committed-shown (F j) (mem j R) (committed-fate (F j) t) (not-mem j R n))
+      (lives-listed opening F (accesses H) R st v j (not-kept (F j) t, n))
+      (ap has-committed (v .statuses j)
+      ∙ committed-shown (F j) (mem j R) (committed-fate (F j) t) (not-mem j R n))
 
   rest-means : (j : ℕ) → j ∈ rest → T (is-committed (F j)) × (j ∈ R → ⊥)
   unfolding rest
@@ -154,7 +154,7 @@ module _ (opening : List ℕ) (H : List Act) (R : List ℕ) (st : State) (v : Ho
   unfolding left jobs
   distinct-left =
       distinct-those (λ j. has-committed (st .status j)) (jobs st)
-        (distinct-those (λ j. present (st .status j)) (rising 0 (st .next)) (distinct-rising 0 (st .next)))
+      (distinct-those (λ j. present (st .status j)) (rising 0 (st .next)) (distinct-rising 0 (st .next)))
 
   committed-edge : (i j : ℕ) → Edge is-committed H i j → Among F (accesses H) i j
   committed-edge i j e = (not-kept (F i) (e .0), not-kept (F j) (e .1), e .2)
@@ -162,28 +162,29 @@ module _ (opening : List ℕ) (H : List Act) (R : List ℕ) (st : State) (v : Ho
   retired-order : SerialOrder is-committed H (R ++ rest)
   unfolding rest
   retired-order =
-      record
-      { distinct =
-          distinct-join R rest (v .graph .distinct)
+      record {
+        distinct =
+            distinct-join R rest (v .graph .distinct)
             (ordered-distinct (Drawn (st .edges)) reach reach-sound reach-found no-cycle left distinct-left)
-            (λ x h k. rest-means x k .1 h)
-      ; all = λ j t.
-          elim (∈-dec j R)
-          [ inl h ↦ ∈-left j R rest h
-          | inr n ↦
-              ∈-right j R rest
-                (ordered-all (Drawn (st .edges)) reach reach-sound reach-found no-cycle j left (left-all j t n)) ]
-      ; only = λ j h.
-          elim (∈-split j R rest h)
-          [ inl k ↦ fate-committed (F j) (v .graph .committed j k) | inr k ↦ rest-means j k .0 ]
-      ; forward =
-          forward-join (Edge is-committed H) R rest
+            (λ x h k. rest-means x k .1 h);
+        all = λ j t.
+            elim (∈-dec j R) [
+              | inl h ↦ ∈-left j R rest h
+              | inr n ↦
+                  ∈-right j R rest
+                  (ordered-all (Drawn (st .edges)) reach reach-sound reach-found no-cycle j left (left-all j t n))
+            ];
+        only = λ j h.
+            elim (∈-split j R rest h)
+            [ inl k ↦ fate-committed (F j) (v .graph .committed j k) | inr k ↦ rest-means j k .0 ];
+        forward =
+            forward-join (Edge is-committed H) R rest
             (forward-weaken (Among F (accesses H)) (Edge is-committed H) R (λ x y h k. committed-edge y x) (v .graph .forward))
             (forward-weaken (Path (Drawn (st .edges))) (Edge is-committed H) rest
-              (λ x y h k e.
-                edge (v .drawing .all y x (not-kept (F y) (e .0), rest-means y k .1) (not-kept (F x) (e .1), rest-means x h .1) (e .2)))
-              (ordered-forward (Drawn (st .edges)) reach reach-sound reach-found no-cycle left))
-            (λ x y h k e. rest-means y k .1 (v .graph .closed y x (committed-edge y x e) h))
+            (λ x y h k e.
+            edge (v .drawing .all y x (not-kept (F y) (e .0), rest-means y k .1) (not-kept (F x) (e .1), rest-means x h .1) (e .2)))
+            (ordered-forward (Drawn (st .edges)) reach reach-sound reach-found no-cycle left))
+            (λ x y h k e. rest-means y k .1 (v .graph .closed y x (committed-edge y x e) h));
       }
 
   -- A STEP IS REFUSED FOR CONFLICT EXACTLY WHEN IT WOULD CLOSE A CYCLE
@@ -194,7 +195,7 @@ module _ (opening : List ℕ) (H : List Act) (R : List ℕ) (st : State) (v : Ho
   to-record act a e f =
       let fates : F ≡ (λ i. fate i (H ++ act ∷ [])) = fun-ext (λ i. sym (fate-more i H act ∙ f i)) in
       let steps : accesses H ++ a ∷ [] ≡ accesses (H ++ act ∷ []) =
-            sym (accesses-join H (act ∷ []) ∙ ap (λ (u : List Access). accesses H ++ u) e) in
+      sym (accesses-join H (act ∷ []) ∙ ap (λ (u : List Access). accesses H ++ u) e) in
       λ i. Cycle (Among (fates i) (steps i))
 
   -- an item that is not served draws no edges
@@ -205,13 +206,15 @@ module _ (opening : List ℕ) (H : List Act) (R : List ℕ) (st : State) (v : Ho
       nowhere : (b : Bool) (i : ℕ) → Did b x i (accesses H) → ⊥
       nowhere b i d =
           let k = known-did F (served st) b x i (accesses H) (v .known) d in omega arith
+
       old : (i k : ℕ) → Among F (accesses H ++ step j x val w ∷ []) i k → Among F (accesses H) i k
       old i k e =
-          elim (leads-more (step j x val w) (accesses H) i k (e .2))
-          [ inl q ↦ (e .0, e .1, q)
-          | inr q ↦
-              elim (met-did (step j x val w) (accesses H) i (q .1) .1)
-              [ inl d ↦ absurd (nowhere true i d) | inr d ↦ absurd (nowhere false i (d .1)) ] ]
+          elim (leads-more (step j x val w) (accesses H) i k (e .2)) [
+            | inl q ↦ (e .0, e .1, q)
+            | inr q ↦
+                elim (met-did (step j x val w) (accesses H) i (q .1) .1)
+                [ inl d ↦ absurd (nowhere true i d) | inr d ↦ absurd (nowhere false i (d .1)) ]
+          ]
 
   module _ (j x val : ℕ) (w : Bool) (run : F j ≡ Fate.running) (none : FreeFor H j x) where
     never-barred : Barred j (st .status j) (leb (served st) x) (st .held x)
@@ -225,25 +228,28 @@ module _ (opening : List ℕ) (H : List Act) (R : List ℕ) (st : State) (v : Ho
     exact : (ρ : Option Refusal)
         → StepCases j (st .status j) (leb (served st) x) (st .held x) (closes-cycle st j x w) ρ
         → (ρ ≡ Some ClosesCycle) ↔ Cycle (Among F (accesses H ++ step j x val w ∷ []))
-    exact _ (barred r e why) =
-        ( (λ q.
-            let u : r ≡ ClosesCycle = cc in
-            true-not-false (aborts r) (ap aborts u) e)
-        , λ c. absurd (never-barred why c) )
+    exact _ (barred r e why) = (
+      (λ q.
+          let u : r ≡ ClosesCycle = cc in
+          true-not-false (aborts r) (ap aborts u) e),
+      λ c. absurd (never-barred why c),
+    )
     exact _ (closing s b f t) =
         ((λ q. cycle-there opening F (accesses H) R st v j x val w run t), λ c. refl)
-    exact _ (granted s b f t) =
-        ( (λ q. let z : _≡_ {A = ℕ} 0 1 = cc in absurd (omega arith))
-        , λ c. true-not-false (closes-cycle st j x w) (cycle-found opening F (accesses H) R st v j x val w run c) t )
+    exact _ (granted s b f t) = (
+      (λ q. let z : _≡_ {A = ℕ} 0 1 = cc in absurd (omega arith)),
+      λ c. true-not-false (closes-cycle st j x w) (cycle-found opening F (accesses H) R st v j x val w run c) t,
+    )
 
   -- an answer is a refusal exactly when the call is refused
   by-answer : (ρ : Option Refusal) (g : Answer) → ((r : Refusal) → g ≡ refused r → ⊥)
       → (by-refusal ρ g (λ r. refused r) ≡ refused ClosesCycle) ↔ (ρ ≡ Some ClosesCycle)
   by-answer None g n =
       ((λ e. absurd (n ClosesCycle e)), λ e. let z : _≡_ {A = ℕ} 0 1 = cc in absurd (omega arith))
-  by-answer (Some r) g n =
-      ( (λ e. let u : r ≡ ClosesCycle = cc in ap (λ (z : Refusal). Some z) u)
-      , λ e. let u : r ≡ ClosesCycle = cc in ap (λ (z : Refusal). refused z) u )
+  by-answer (Some r) g n = (
+    (λ e. let u : r ≡ ClosesCycle = cc in ap (λ (z : Refusal). Some z) u),
+    λ e. let u : r ≡ ClosesCycle = cc in ap (λ (z : Refusal). refused z) u,
+  )
 
   answered-not-refused : (n : ℕ) (r : Refusal) → answered n ≡ refused r → ⊥
   answered-not-refused n r e = let z : _≡_ {A = ℕ} 0 1 = cc in omega arith
@@ -256,33 +262,35 @@ module _ (opening : List ℕ) (H : List Act) (R : List ℕ) (st : State) (v : Ho
   exact-read j x val run none a t q =
       let one = by-answer (refusal st (read j x)) (granted-answer st (read j x)) (answered-not-refused (seen st j x)) in
       let two = exact j x val false run none (refusal st (read j x))
-            (step-cases j (st .status j) (leb (served st) x) (st .held x) (closes-cycle st j x false)) in
-      let same = to-record (Read j x val) (step j x val false) refl (λ i. refl) in
-      ( (λ e. transport same (two .0 (one .0 (sym (q .answers) ∙ e))))
-      , λ c. q .answers ∙ one .1 (two .1 (transport (sym same) c)) )
+      (step-cases j (st .status j) (leb (served st) x) (st .held x) (closes-cycle st j x false)) in
+      let same = to-record (Read j x val) (step j x val false) refl (λ i. refl) in (
+        (λ e. transport same (two .0 (one .0 (sym (q .answers) ∙ e)))),
+        λ c. q .answers ∙ one .1 (two .1 (transport (sym same) c)),
+      )
 
   pub exact-write : (j x val : ℕ) → fate j H ≡ Fate.running → FreeFor H j x → RefusedForCycle st H (write j x val) (Write j x val)
   unfolding answer refusal granted-answer
   exact-write j x val run none a t q =
       let one = by-answer (refusal st (write j x val)) (granted-answer st (write j x val)) done-not-refused in
       let two = exact j x val true run none (refusal st (write j x val))
-            (step-cases j (st .status j) (leb (served st) x) (st .held x) (closes-cycle st j x true)) in
-      let same = to-record (Write j x val) (step j x val true) refl (λ i. refl) in
-      ( (λ e. transport same (two .0 (one .0 (sym (q .answers) ∙ e))))
-      , λ c. q .answers ∙ one .1 (two .1 (transport (sym same) c)) )
+      (step-cases j (st .status j) (leb (served st) x) (st .held x) (closes-cycle st j x true)) in
+      let same = to-record (Write j x val) (step j x val true) refl (λ i. refl) in (
+        (λ e. transport same (two .0 (one .0 (sym (q .answers) ∙ e)))),
+        λ c. q .answers ∙ one .1 (two .1 (transport (sym same) c)),
+      )
 
   pub serializable : Serializable opening H R st
   serializable =
-      record
-      { some-order = (R ++ rest, retired-order)
-      ; every-order = every-order
-      ; retired-first = (rest, retired-order)
-      ; exact-read = exact-read
-      ; exact-write = exact-write
+      record {
+        some-order = (R ++ rest, retired-order);
+        every-order = every-order;
+        retired-first = (rest, retired-order);
+        exact-read = exact-read;
+        exact-write = exact-write;
       }
 
 -- every run of every hub is serializable
 pub every-run-serializable : EveryRunSerializable
 every-run-serializable slots first room opening run s r =
     serializable opening (acts-of run) (retired-of run) s
-      (inv-run opening run [] [] (made slots first opening room) s (inv-made slots first room opening) r)
+    (inv-run opening run [] [] (made slots first opening room) s (inv-made slots first room opening) r)

@@ -46,12 +46,13 @@ pub retirable-means : (st : State) (j : ℕ) → j ∈ retirable st
 unfolding retirable
 retirable-means st j h =
     let q = those-∈ (λ i. has-committed (st .status i) && not (any (λ k. st .edges k i) (jobs st))) j (jobs st) h in
-    let p = and-parts (has-committed (st .status j)) (not (any (λ k. st .edges k j) (jobs st))) (q .1) in
-    ( q .0
-    , committed-status (st .status j) (p .0)
-    , λ i k e.
-        true-not-false (any (λ k. st .edges k j) (jobs st)) (true-any (λ k. st .edges k j) i (jobs st) k e)
-          (not-true (any (λ k. st .edges k j) (jobs st)) (p .1)) )
+    let p = and-parts (has-committed (st .status j)) (not (any (λ k. st .edges k j) (jobs st))) (q .1) in (
+      q .0,
+      committed-status (st .status j) (p .0),
+      λ i k e.
+          true-not-false (any (λ k. st .edges k j) (jobs st)) (true-any (λ k. st .edges k j) i (jobs st) k e)
+          (not-true (any (λ k. st .edges k j) (jobs st)) (p .1)),
+    )
 
 pub retiring-none : (n : ℕ) (st : State) → retirable st ≡ [] → retiring (suc n) st ≡ []
 unfolding retiring
@@ -68,23 +69,24 @@ unfolding retiring all-removed
 inv-retiring opening F s zero R st v = subst (λ (Q : List ℕ). Inv opening F s Q st) (sym (append-nil R)) v
 inv-retiring opening F s (suc n) R st v =
     by-list (retirable st) refl
-      (λ j js e.
-        let m = retirable-means st j (subst (λ (l : List ℕ). j ∈ l) (sym e) (inl refl)) in
-        inv-retiring opening F s n (R ++ j ∷ []) (removed j st)
-          (inv-retired opening F s R st v j (m .1) (λ i l. m .2 i (lives-listed opening F s R st v i l))))
+    (λ j js e.
+    let m = retirable-means st j (subst (λ (l : List ℕ). j ∈ l) (sym e) (inl refl)) in
+    inv-retiring opening F s n (R ++ j ∷ []) (removed j st)
+    (inv-retired opening F s R st v j (m .1) (λ i l. m .2 i (lives-listed opening F s R st v i l))))
   where
     Goal : List ℕ → Type 0
     Goal js = Inv opening F s (R ++ js) (all-removed js st)
+
     by-list : (l : List ℕ) → retirable st ≡ l
         → ((j : ℕ) (js : List ℕ) → retirable st ≡ j ∷ js
-          → Inv opening F s ((R ++ j ∷ []) ++ retiring n (removed j st)) (all-removed (retiring n (removed j st)) (removed j st)))
+        → Inv opening F s ((R ++ j ∷ []) ++ retiring n (removed j st)) (all-removed (retiring n (removed j st)) (removed j st)))
         → Goal (retiring (suc n) st)
     by-list [] e k =
         subst Goal (sym (retiring-none n st e)) (subst (λ (Q : List ℕ). Inv opening F s Q st) (sym (append-nil R)) v)
     by-list (j ∷ js) e k =
         subst Goal (sym (retiring-some n st j js e))
-          (subst (λ (Q : List ℕ). Inv opening F s Q (all-removed (retiring n (removed j st)) (removed j st)))
-            (append-assoc R (j ∷ []) (retiring n (removed j st))) (k j js e))
+        (subst (λ (Q : List ℕ). Inv opening F s Q (all-removed (retiring n (removed j st)) (removed j st)))
+        (append-assoc R (j ∷ []) (retiring n (removed j st))) (k j js e))
 
 -- WHY A STEP IS REFUSED
 
@@ -109,7 +111,7 @@ step-cases j Status.running false (Some h) c = by-holder (eqb (h .job) j) refl c
   where
     by-holder : (d : Bool) → eqb (h .job) j ≡ d → (c : Bool)
         → StepCases j Status.running false (Some h) c
-            (refuse-if (not d) (ItemHeld (h .job)) else refuse-if c ClosesCycle)
+        (refuse-if (not d) (ItemHeld (h .job)) else refuse-if c ClosesCycle)
     by-holder false e c = barred (ItemHeld (h .job)) refl (inr (inr (h, refl, eqb-false (h .job) j e)))
     by-holder true e true = closing refl refl (own h (eqb-true (h .job) j e)) refl
     by-holder true e false = granted refl refl (own h (eqb-true (h .job) j e)) refl
@@ -127,15 +129,15 @@ module _ (opening : List ℕ) (H : List Act) (R : List ℕ) (st : State) where
       → Holds opening (H ++ act ∷ []) Q t
   recorded act Q t v =
       subst₂ (λ (F : ℕ → Fate) (s : List Access). Inv opening F s Q t)
-        (fun-ext (λ j. sym (fate-more j H act))) (sym (accesses-join H (act ∷ []))) v
+      (fun-ext (λ j. sym (fate-more j H act))) (sym (accesses-join H (act ∷ []))) v
 
   -- where the act is no access
   quietly : (act : Act) (Q : List ℕ) (t : State) → accesses (act ∷ []) ≡ []
       → Inv opening (λ j. after act j (fate j H)) (accesses H) Q t → Holds opening (H ++ act ∷ []) Q t
   quietly act Q t e v =
       recorded act Q t
-        (subst (λ (s : List Access). Inv opening (λ j. after act j (fate j H)) s Q t)
-          (sym (ap (λ (u : List Access). accesses H ++ u) e ∙ append-nil (accesses H))) v)
+      (subst (λ (s : List Access). Inv opening (λ j. after act j (fate j H)) s Q t)
+      (sym (ap (λ (u : List Access). accesses H ++ u) e ∙ append-nil (accesses H))) v)
 
   unmoved : Holds opening H R st → Holds opening (H ++ []) (R ++ []) st
   unmoved v = subst₂ (λ (K : List Act) (Q : List ℕ). Holds opening K Q st) (sym (append-nil H)) (sym (append-nil R)) v
@@ -144,8 +146,8 @@ module _ (opening : List ℕ) (H : List Act) (R : List ℕ) (st : State) where
   abbrev Kept-by : Call → ℕ → Option Refusal → Type 0
   Kept-by c left ρ =
       Holds opening (H ++ acts c (by-refusal ρ (granted-answer st c) (λ r. refused r)))
-        (R ++ retired-by (by-refusal ρ (granted-answer st c) (λ r. refused r)))
-        (by-refusal ρ (granted-state st c left) (λ r. refused-state st c r))
+      (R ++ retired-by (by-refusal ρ (granted-answer st c) (λ r. refused r)))
+      (by-refusal ρ (granted-state st c left) (λ r. refused-state st c r))
 
   module _ (v : Holds opening H R st) where
     none-retired : (K : List Act) (t : State) → Holds opening K R t → Holds opening K (R ++ []) t
@@ -157,8 +159,8 @@ module _ (opening : List ℕ) (H : List Act) (R : List ℕ) (st : State) where
     aborted : (j : ℕ) → st .status j ≡ Status.running → Holds opening (H ++ Abort j ∷ []) (R ++ []) (removed j st)
     aborted j e =
         none-retired (H ++ Abort j ∷ []) (removed j st)
-          (quietly (Abort j) R (removed j st) refl
-            (inv-aborted opening (λ i. fate i H) (accesses H) R st v j (running j e)))
+        (quietly (Abort j) R (removed j st) refl
+        (inv-aborted opening (λ i. fate i H) (accesses H) R st v j (running j e)))
 
     by-read : (j x left : ℕ) (ρ : Option Refusal)
         → StepCases j (st .status j) (leb (served st) x) (st .held x) (closes-cycle st j x false) ρ
@@ -168,8 +170,8 @@ module _ (opening : List ℕ) (H : List Act) (R : List ℕ) (st : State) where
     by-read j x left _ (closing e b f c) = aborted j e
     by-read j x left _ (granted e b f c) =
         none-retired (H ++ Read j x (seen st j x) ∷ []) _
-          (recorded (Read j x (seen st j x)) R _
-            (inv-read opening (λ i. fate i H) (accesses H) R st v j x (running j e) (leb-false (served st) x b) f c))
+        (recorded (Read j x (seen st j x)) R _
+        (inv-read opening (λ i. fate i H) (accesses H) R st v j x (running j e) (leb-false (served st) x b) f c))
 
     by-write : (j x val left : ℕ) (ρ : Option Refusal)
         → StepCases j (st .status j) (leb (served st) x) (st .held x) (closes-cycle st j x true) ρ
@@ -179,8 +181,8 @@ module _ (opening : List ℕ) (H : List Act) (R : List ℕ) (st : State) where
     by-write j x val left _ (closing e b f c) = aborted j e
     by-write j x val left _ (granted e b f c) =
         none-retired (H ++ Write j x val ∷ []) _
-          (recorded (Write j x val) R _
-            (inv-written opening (λ i. fate i H) (accesses H) R st v j x val (running j e) (leb-false (served st) x b) f c))
+        (recorded (Write j x val) R _
+        (inv-written opening (λ i. fate i H) (accesses H) R st v j x val (running j e) (leb-false (served st) x b) f c))
 
     by-begin : (left : ℕ) (b d : Bool) → Kept-by begin left (refuse-if b TableFull else refuse-if d NumbersSpent)
     unfolding granted-answer granted-state refused-state
@@ -188,7 +190,7 @@ module _ (opening : List ℕ) (H : List Act) (R : List ℕ) (st : State) where
     by-begin left false true = unmoved v
     by-begin left false false =
         none-retired (H ++ Open (st .next) ∷ []) _
-          (quietly (Open (st .next)) R _ refl (inv-opened opening (λ i. fate i H) (accesses H) R st v))
+        (quietly (Open (st .next)) R _ refl (inv-opened opening (λ i. fate i H) (accesses H) R st v))
 
     by-commit : (j left : ℕ) (σ : Status) → st .status j ≡ σ → (b : Bool)
         → Kept-by (commit j) left (not-running σ else refuse-if b NoRoom)
@@ -198,7 +200,7 @@ module _ (opening : List ℕ) (H : List Act) (R : List ℕ) (st : State) where
     by-commit j left Status.running e true = unmoved v
     by-commit j left Status.running e false =
         none-retired (H ++ Commit j ∷ []) _
-          (quietly (Commit j) R _ refl (inv-ended opening (λ i. fate i H) (accesses H) R st v j left (running j e)))
+        (quietly (Commit j) R _ refl (inv-ended opening (λ i. fate i H) (accesses H) R st v j left (running j e)))
 
     by-abort : (j left : ℕ) (σ : Status) → st .status j ≡ σ → Kept-by (abort j) left (not-running σ)
     unfolding granted-answer granted-state refused-state
@@ -210,7 +212,7 @@ module _ (opening : List ℕ) (H : List Act) (R : List ℕ) (st : State) where
     unfolding granted-answer granted-state refused-state
     by-retire n left =
         quietly Retire (R ++ retiring n st) _ refl
-          (inv-retiring opening (λ i. fate i H) (accesses H) n R st v)
+        (inv-retiring opening (λ i. fate i H) (accesses H) n R st v)
 
     by-peek : (x left : ℕ) (b : Bool) → Kept-by (peek x) left (refuse-if b ItemNotServed)
     unfolding granted-answer granted-state refused-state
@@ -234,7 +236,7 @@ module _ (opening : List ℕ) (H : List Act) (R : List ℕ) (st : State) where
     unfolding answer after-call
     inv-turn c a t q =
         subst₂ (λ (b : Answer) (u : State). Holds opening (H ++ acts c b) (R ++ retired-by b) u)
-          (sym (q .answers)) (sym (q .becomes)) (inv-call c (t .room))
+        (sym (q .answers)) (sym (q .becomes)) (inv-call c (t .room))
 
 -- A RUN
 
@@ -244,32 +246,32 @@ inv-run opening [] H R st t v e =
     subst₃ (λ (K : List Act) (Q : List ℕ) (u : State). Holds opening K Q u) (sym (append-nil H)) (sym (append-nil R)) (sym e) v
 inv-run opening (u ∷ us) H R st t v (m, q, r) =
     subst₂ (λ (K : List Act) (Q : List ℕ). Holds opening K Q t)
-      (append-assoc H (acts (u .call) (u .answer)) (acts-of us))
-      (append-assoc R (retired-by (u .answer)) (retired-of us))
-      (inv-run opening us (H ++ acts (u .call) (u .answer)) (R ++ retired-by (u .answer)) m t
-        (inv-turn opening H R st v (u .call) (u .answer) m q) r)
+    (append-assoc H (acts (u .call) (u .answer)) (acts-of us))
+    (append-assoc R (retired-by (u .answer)) (retired-of us))
+    (inv-run opening us (H ++ acts (u .call) (u .answer)) (R ++ retired-by (u .answer)) m t
+    (inv-turn opening H R st v (u .call) (u .answer) m q) r)
 
 pub inv-made : (slots first room : ℕ) (opening : List ℕ) → Holds opening [] [] (made slots first opening room)
 unfolding made mem shown kept
 inv-made slots first room opening =
-    record
-    { long = refl
-    ; fresh = λ j l. refl
-    ; statuses = λ j. refl
-    ; known = tt
-    ; reading = record { only = λ x i e. true-not-false false e refl; all = λ x i l d. absurd d }
-    ; writing = record { only = λ x i e. true-not-false false e refl; all = λ x i l d. absurd d }
-    ; drawing = record { only = λ i j e. true-not-false false e refl; all = λ i j l m d. absurd d }
-    ; holding = λ x h e. let z : _≡_ {A = ℕ} 0 1 = cc in absurd (omega arith)
-    ; graph =
-        record
-        { committed = λ j h. absurd h
-        ; distinct = tt
-        ; closed = λ i j e h. absurd h
-        ; forward = tt
-        ; acyclic = λ c. first-edge (c .1)
-        }
-    ; plays = λ k c. (opening, refl, record { long = refl; shows = λ x. refl })
+    record {
+      long = refl;
+      fresh = λ j l. refl;
+      statuses = λ j. refl;
+      known = tt;
+      reading = record { only = λ x i e. true-not-false false e refl; all = λ x i l d. absurd d };
+      writing = record { only = λ x i e. true-not-false false e refl; all = λ x i l d. absurd d };
+      drawing = record { only = λ i j e. true-not-false false e refl; all = λ i j l m d. absurd d };
+      holding = λ x h e. let z : _≡_ {A = ℕ} 0 1 = cc in absurd (omega arith);
+      graph =
+          record {
+            committed = λ j h. absurd h;
+            distinct = tt;
+            closed = λ i j e h. absurd h;
+            forward = tt;
+            acyclic = λ c. first-edge (c .1);
+          };
+      plays = λ k c. (opening, refl, record { long = refl; shows = λ x. refl });
     }
   where
     first-edge : {i j : ℕ} → Path (Among (λ j. fate j []) []) i j → ⊥

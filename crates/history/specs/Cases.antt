@@ -59,62 +59,62 @@ overwritten-read =
 abbrev pub retires-by-edges-not-by-commits : Case
 retires-by-edges-not-by-commits =
     played zeros plenty
-      (overwritten-read
-        ++ write 1 1 5 ⇒ done
-        ∷ retire 32 ⇒ wrote []
-        ∷ commit 1 ⇒ done
-        ∷ retire 32 ⇒ wrote (1 ∷ 2 ∷ [])
-        ∷ peek 0 ⇒ answered 7
-        ∷ [])
+    (overwritten-read
+    ++ write 1 1 5 ⇒ done
+    ∷ retire 32 ⇒ wrote []
+    ∷ commit 1 ⇒ done
+    ∷ retire 32 ⇒ wrote (1 ∷ 2 ∷ [])
+    ∷ peek 0 ⇒ answered 7
+    ∷ [])
 
 abbrev pub reading-again-after-overwrite-is-refused : Case
 reading-again-after-overwrite-is-refused =
     played zeros plenty
-      (overwritten-read ++ read 1 0 ⇒ refused ClosesCycle ∷ read 1 0 ⇒ refused NotPresent ∷ [])
+    (overwritten-read ++ read 1 0 ⇒ refused ClosesCycle ∷ read 1 0 ⇒ refused NotPresent ∷ [])
 
 abbrev pub write-skew-is-refused : Case
 write-skew-is-refused =
     played zeros plenty
-      (begin ⇒ answered 1
-       ∷ begin ⇒ answered 2
-       ∷ read 1 0 ⇒ answered 0
-       ∷ read 1 1 ⇒ answered 0
-       ∷ read 2 0 ⇒ answered 0
-       ∷ read 2 1 ⇒ answered 0
-       ∷ write 1 0 1 ⇒ done
-       ∷ write 2 1 1 ⇒ refused ClosesCycle
-       ∷ [])
+    (begin ⇒ answered 1
+    ∷ begin ⇒ answered 2
+    ∷ read 1 0 ⇒ answered 0
+    ∷ read 1 1 ⇒ answered 0
+    ∷ read 2 0 ⇒ answered 0
+    ∷ read 2 1 ⇒ answered 0
+    ∷ write 1 0 1 ⇒ done
+    ∷ write 2 1 1 ⇒ refused ClosesCycle
+    ∷ [])
 
 abbrev pub no-path-leads-through-an-aborted-job : Case
 no-path-leads-through-an-aborted-job =
     played zeros plenty
-      (begin ⇒ answered 1
-       ∷ begin ⇒ answered 2
-       ∷ begin ⇒ answered 3
-       ∷ read 1 0 ⇒ answered 0
-       ∷ write 2 0 4 ⇒ done
-       ∷ read 2 1 ⇒ answered 0
-       ∷ write 3 1 9 ⇒ done
-       ∷ abort 2 ⇒ done
-       ∷ commit 3 ⇒ done
-       ∷ read 1 1 ⇒ answered 9
-       ∷ [])
+    (begin ⇒ answered 1
+    ∷ begin ⇒ answered 2
+    ∷ begin ⇒ answered 3
+    ∷ read 1 0 ⇒ answered 0
+    ∷ write 2 0 4 ⇒ done
+    ∷ read 2 1 ⇒ answered 0
+    ∷ write 3 1 9 ⇒ done
+    ∷ abort 2 ⇒ done
+    ∷ commit 3 ⇒ done
+    ∷ read 1 1 ⇒ answered 9
+    ∷ [])
 
 abbrev pub two-writes-of-one-item-need-one-record : Case
 two-writes-of-one-item-need-one-record =
     played (0 ∷ 0 ∷ []) 1
-      (begin ⇒ answered 1 ∷ write 1 0 3 ⇒ done ∷ write 1 0 4 ⇒ done ∷ commit 1 ⇒ done ∷ peek 0 ⇒ answered 4 ∷ [])
+    (begin ⇒ answered 1 ∷ write 1 0 3 ⇒ done ∷ write 1 0 4 ⇒ done ∷ commit 1 ⇒ done ∷ peek 0 ⇒ answered 4 ∷ [])
 
 abbrev pub writes-of-two-items-need-two-records : Case
 writes-of-two-items-need-two-records =
     played (0 ∷ 0 ∷ []) 1
-      (begin ⇒ answered 1
-       ∷ write 1 0 3 ⇒ done
-       ∷ write 1 0 4 ⇒ done
-       ∷ write 1 1 5 ⇒ done
-       ∷ commit 1 ⇒ refused NoRoom
-       ∷ read 1 1 ⇒ answered 5
-       ∷ [])
+    (begin ⇒ answered 1
+    ∷ write 1 0 3 ⇒ done
+    ∷ write 1 0 4 ⇒ done
+    ∷ write 1 1 5 ⇒ done
+    ∷ commit 1 ⇒ refused NoRoom
+    ∷ read 1 1 ⇒ answered 5
+    ∷ [])
 
 abbrev pub a-hub-over-no-items-serves-none : Case
 a-hub-over-no-items-serves-none =
@@ -123,17 +123,17 @@ a-hub-over-no-items-serves-none =
 abbrev pub a-full-table-takes-a-job-when-one-is-gone : Case
 a-full-table-takes-a-job-when-one-is-gone =
     played zeros plenty
-      (opens 1 32 ++ begin ⇒ refused TableFull ∷ abort 1 ⇒ done ∷ begin ⇒ answered 33 ∷ [])
+    (opens 1 32 ++ begin ⇒ refused TableFull ∷ abort 1 ⇒ done ∷ begin ⇒ answered 33 ∷ [])
 
 abbrev pub a-job-sees-its-own-write-and-peek-does-not : Case
 a-job-sees-its-own-write-and-peek-does-not =
     played zeros plenty
-      (begin ⇒ answered 1 ∷ write 1 0 5 ⇒ done ∷ read 1 0 ⇒ answered 5 ∷ peek 0 ⇒ answered 0 ∷ [])
+    (begin ⇒ answered 1 ∷ write 1 0 5 ⇒ done ∷ read 1 0 ⇒ answered 5 ∷ peek 0 ⇒ answered 0 ∷ [])
 
 abbrev pub none-retires-into-no-places : Case
 none-retires-into-no-places =
     played zeros plenty
-      (begin ⇒ answered 1 ∷ commit 1 ⇒ done ∷ retire 0 ⇒ wrote [] ∷ retire 32 ⇒ wrote (1 ∷ []) ∷ [])
+    (begin ⇒ answered 1 ∷ commit 1 ⇒ done ∷ retire 0 ⇒ wrote [] ∷ retire 32 ⇒ wrote (1 ∷ []) ∷ [])
 
 abbrev pub the-empty-trace-has-the-empty-order : Case
 the-empty-trace-has-the-empty-order = in-order [] []
@@ -142,22 +142,22 @@ the-empty-trace-has-the-empty-order = in-order [] []
 abbrev pub a-blind-write-mends-no-cycle : Case
 a-blind-write-mends-no-cycle =
     in-cycle
-      (Open 1 ∷ Open 2 ∷ Open 3 ∷ Read 1 0 0 ∷ Write 2 0 2 ∷ Write 1 0 1 ∷ Write 3 0 3 ∷ Commit 1 ∷ Commit 2 ∷ Commit 3 ∷ [])
-      1 (2 ∷ [])
+    (Open 1 ∷ Open 2 ∷ Open 3 ∷ Read 1 0 0 ∷ Write 2 0 2 ∷ Write 1 0 1 ∷ Write 3 0 3 ∷ Commit 1 ∷ Commit 2 ∷ Commit 3 ∷ [])
+    1 (2 ∷ [])
 
 abbrev pub WorkedExamples : Type 0
 WorkedExamples =
     AllHold
-      (retires-by-edges-not-by-commits
-       ∷ reading-again-after-overwrite-is-refused
-       ∷ write-skew-is-refused
-       ∷ no-path-leads-through-an-aborted-job
-       ∷ two-writes-of-one-item-need-one-record
-       ∷ writes-of-two-items-need-two-records
-       ∷ a-hub-over-no-items-serves-none
-       ∷ a-full-table-takes-a-job-when-one-is-gone
-       ∷ a-job-sees-its-own-write-and-peek-does-not
-       ∷ none-retires-into-no-places
-       ∷ the-empty-trace-has-the-empty-order
-       ∷ a-blind-write-mends-no-cycle
-       ∷ [])
+    (retires-by-edges-not-by-commits
+    ∷ reading-again-after-overwrite-is-refused
+    ∷ write-skew-is-refused
+    ∷ no-path-leads-through-an-aborted-job
+    ∷ two-writes-of-one-item-need-one-record
+    ∷ writes-of-two-items-need-two-records
+    ∷ a-hub-over-no-items-serves-none
+    ∷ a-full-table-takes-a-job-when-one-is-gone
+    ∷ a-job-sees-its-own-write-and-peek-does-not
+    ∷ none-retires-into-no-places
+    ∷ the-empty-trace-has-the-empty-order
+    ∷ a-blind-write-mends-no-cycle
+    ∷ [])

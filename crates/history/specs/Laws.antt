@@ -25,16 +25,16 @@ Reached s =
 -- the state, whatever its room
 unfoldable pub but-room : State → State
 but-room s =
-    record
-    { slots = s .slots
-    ; next = s .next
-    ; status = s .status
-    ; held = s .held
-    ; readers = s .readers
-    ; writers = s .writers
-    ; edges = s .edges
-    ; values = s .values
-    ; room = 0
+    record {
+      slots = s .slots;
+      next = s .next;
+      status = s .status;
+      held = s .held;
+      readers = s .readers;
+      writers = s .writers;
+      edges = s .edges;
+      values = s .values;
+      room = 0;
     }
 
 -- in every state every call has an answer and a next state, and no two that differ in more than the room

@@ -43,16 +43,16 @@ pub record State : Type 0 where
 -- a hub that was just made
 unfoldable pub made : ℕ → ℕ → List ℕ → ℕ → State
 made slots first values room =
-    record
-    { slots = slots
-    ; next = first
-    ; status = λ j. absent
-    ; held = λ x. None
-    ; readers = λ x j. false
-    ; writers = λ x j. false
-    ; edges = λ i j. false
-    ; values = values
-    ; room = room
+    record {
+      slots = slots;
+      next = first;
+      status = λ j. absent;
+      held = λ x. None;
+      readers = λ x j. false;
+      writers = λ x j. false;
+      edges = λ i j. false;
+      values = values;
+      room = room;
     }
 
 -- THE QUESTIONS THAT A CALL ASKS OF IT
@@ -150,46 +150,46 @@ let-go j h = cond (holds j h) None h
 -- the next number is given to a job, which runs
 unfoldable pub opened : State → State
 opened s =
-    record
-    { slots = s .slots
-    ; next = suc (s .next)
-    ; status = put-at (s .next) running (s .status)
-    ; held = s .held
-    ; readers = s .readers
-    ; writers = s .writers
-    ; edges = s .edges
-    ; values = s .values
-    ; room = s .room
+    record {
+      slots = s .slots;
+      next = suc (s .next);
+      status = put-at (s .next) running (s .status);
+      held = s .held;
+      readers = s .readers;
+      writers = s .writers;
+      edges = s .edges;
+      values = s .values;
+      room = s .room;
     }
 
 -- job j has read item x
 unfoldable pub has-read : ℕ → ℕ → State → State
 has-read j x s =
-    record
-    { slots = s .slots
-    ; next = s .next
-    ; status = s .status
-    ; held = s .held
-    ; readers = put-at x (with-one j (s .readers x)) (s .readers)
-    ; writers = s .writers
-    ; edges = drawn s j x false
-    ; values = s .values
-    ; room = s .room
+    record {
+      slots = s .slots;
+      next = s .next;
+      status = s .status;
+      held = s .held;
+      readers = put-at x (with-one j (s .readers x)) (s .readers);
+      writers = s .writers;
+      edges = drawn s j x false;
+      values = s .values;
+      room = s .room;
     }
 
 -- job j has written v to item x, and holds it
 unfoldable pub has-written : ℕ → ℕ → ℕ → State → State
 has-written j x v s =
-    record
-    { slots = s .slots
-    ; next = s .next
-    ; status = s .status
-    ; held = put-at x (Some (record { job = j; value = v })) (s .held)
-    ; readers = s .readers
-    ; writers = put-at x (with-one j (s .writers x)) (s .writers)
-    ; edges = drawn s j x true
-    ; values = s .values
-    ; room = s .room
+    record {
+      slots = s .slots;
+      next = s .next;
+      status = s .status;
+      held = put-at x (Some (record { job = j; value = v })) (s .held);
+      readers = s .readers;
+      writers = put-at x (with-one j (s .writers x)) (s .writers);
+      edges = drawn s j x true;
+      values = s .values;
+      room = s .room;
     }
 
 -- the held values of the listed items put into the store, one after another
@@ -200,31 +200,31 @@ put-all held (x ∷ xs) values = put-all held xs (set values x (held-value (held
 -- job j has committed: its held values are in the store, which has this room left, and it holds nothing
 unfoldable pub has-ended : ℕ → ℕ → State → State
 has-ended j left s =
-    record
-    { slots = s .slots
-    ; next = s .next
-    ; status = put-at j committed (s .status)
-    ; held = λ x. let-go j (s .held x)
-    ; readers = s .readers
-    ; writers = s .writers
-    ; edges = s .edges
-    ; values = put-all (s .held) (holdings s j) (s .values)
-    ; room = left
+    record {
+      slots = s .slots;
+      next = s .next;
+      status = put-at j committed (s .status);
+      held = λ x. let-go j (s .held x);
+      readers = s .readers;
+      writers = s .writers;
+      edges = s .edges;
+      values = put-all (s .held) (holdings s j) (s .values);
+      room = left;
     }
 
 -- job j is gone, with its holdings, its part in the sets and its edges both ways
 unfoldable pub removed : ℕ → State → State
 removed j s =
-    record
-    { slots = s .slots
-    ; next = s .next
-    ; status = put-at j absent (s .status)
-    ; held = λ x. let-go j (s .held x)
-    ; readers = λ x. without j (s .readers x)
-    ; writers = λ x. without j (s .writers x)
-    ; edges = λ a b. not (eqb b j) && without j (λ i. s .edges i b) a
-    ; values = s .values
-    ; room = s .room
+    record {
+      slots = s .slots;
+      next = s .next;
+      status = put-at j absent (s .status);
+      held = λ x. let-go j (s .held x);
+      readers = λ x. without j (s .readers x);
+      writers = λ x. without j (s .writers x);
+      edges = λ a b. not (eqb b j) && without j (λ i. s .edges i b) a;
+      values = s .values;
+      room = s .room;
     }
 
 -- a list of jobs removed, one after another
@@ -265,7 +265,6 @@ None else q = q
 (Some r) else q = Some r
 
 infixr 30 _else_
-
 abbrev pub refuse-if : Bool → Refusal → Option Refusal
 refuse-if b r = cond b (Some r) None
 

@@ -83,7 +83,7 @@ returns-in-Some g c =
     ] in
     let r = ended-at _ _ _ _ _ _ _ e (c .in-Some .is) in
     let shown = way-shown _ _ _ _ few _ (r .0) _ (r .1) (r .2) in
-    (shows-finds _ _ _ _ shown, rw (c .way-to .ensures .way) shown, c .way-to .ensures .count)
+    (shows-finds _ _ _ _ shown, rw (c .way-to .ensures .way) shown, c .way-to .ensures .count, c .way-to .ensures .places)
 
 pub returns-in-None : need.returns-in-None
 returns-in-None g c =
