@@ -1,5 +1,4 @@
 -- What a list of acts, oldest first, says of its jobs. Rests on the acts of a trace.
-use mathlib.Core.Path.{_≡_}
 use mathlib.Core.Bool.{Bool, true, false, cond}
 use mathlib.Core.List.{List, [], _∷_}
 use Prim.Native.Nat.{ℕ}

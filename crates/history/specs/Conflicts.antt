@@ -48,8 +48,8 @@ Leads (a ∷ s) i j = ((a .job ≡ i) × Meets a j s) ⊎ Leads s i j
 abbrev pub Edge : Keep → List Act → Relation
 Edge keep H i j = Kept keep H i × Kept keep H j × Leads (accesses H) i j
 
--- an order of the jobs that count, and of no others, each once, in which no edge leads from a later
--- job to an earlier one
+-- a serial order: all the jobs that count and no others, each once, and every edge between two of them
+-- leads from the earlier to the later
 pub record SerialOrder (keep : Keep) (H : List Act) (order : List ℕ) : Type 0 where
   pub distinct : Distinct order
   pub all : (j : ℕ) → Kept keep H j → j ∈ order

@@ -1,7 +1,7 @@
 -- The serial run: the jobs of an order one after another, each with its reads and writes in the order
 -- in which they were granted. Rests on Conflicts.
 use mathlib.Core.Path.{_≡_}
-use mathlib.Core.Bool.{Bool, true, false, cond}
+use mathlib.Core.Bool.{cond}
 use mathlib.Core.List.{List, [], _∷_, _++_, map}
 use Prim.Native.Nat.{ℕ}
 use lib.Dec.{eqb}
@@ -25,7 +25,8 @@ pub record Outcome : Type 0 where
 abbrev answered : ℕ → Outcome → Outcome
 answered v o = record { answers = v ∷ o .answers; contents = o .contents }
 
--- requests carried out one after another: a read answers the item's value, a write replaces it
+-- requests carried out one after another: a read is answered by what the item holds, a write replaces
+-- that
 abbrev pub serial : List ℕ → List Request → Outcome
 serial values [] = record { answers = []; contents = values }
 serial values (read x ∷ s) = answered (getD values x 0) (serial values s)

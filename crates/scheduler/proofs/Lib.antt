@@ -1,0 +1,17 @@
+pub mod Accesses
+pub mod Commits
+pub mod Cored
+pub mod Counting
+pub mod Draws
+pub mod Ends
+pub mod JobSlots
+pub mod Makes
+pub mod Opens
+pub mod Permits
+pub mod Removes
+pub mod RetireRuns
+pub mod Retires
+pub mod SlotSets
+pub mod Sounds
+pub mod States
+pub mod Swept

@@ -1,0 +1,4 @@
+pub mod Cores
+pub mod Marks
+pub mod Reading
+pub mod Slots

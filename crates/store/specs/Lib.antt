@@ -1,0 +1,4 @@
+pub mod Stores
+pub mod Memories
+pub mod Records
+pub mod Logs
