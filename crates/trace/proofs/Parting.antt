@@ -11,7 +11,7 @@ use lib.ListN.{length, getD, take, drop, length-drop}
 use native.Mathlib.Nat.{sub-zero}
 use Rattle.std.proofs.shelf.Lists.{drop-more, drop-all, take-rest, take-all, nil-from-length}
 use Rattle.std.proofs.shelf.Tests.{eq-eqb, ne-eqb, cases-bool, eqb-true, eqb-false}
-use Rattle.trace.specs.Pieces.{before, behind, onto, parted, rejoined}
+use Rattle.trace.specs.Pieces.{before, behind, onto, parted}
 
 -- before the separator: one byte on, and at its end
 
@@ -146,6 +146,12 @@ parted-ended sep (b ∷ bs) h = go (parted-ended sep bs)
         ]
 
 -- putting together again
+
+-- pieces put together again, with a separator between any two
+abbrev pub rejoined : ℕ → List (List ℕ) → List ℕ
+rejoined sep [] = []
+rejoined sep (p ∷ []) = p
+rejoined sep (p ∷ q ∷ ps) = p ++ sep ∷ rejoined sep (q ∷ ps)
 
 rejoined-onto : (sep b : ℕ) (ps : List (List ℕ)) → rejoined sep (onto b ps) ≡ b ∷ rejoined sep ps
 rejoined-onto sep b [] = refl

@@ -33,9 +33,9 @@ use Rattle.trace.specs.Kinds.{kind-of, letter}
 use Rattle.trace.specs.Limits.{limit}
 use Rattle.trace.specs.Lines.{and-then, in-field, filled, vacant, job-alone, all-three, all-but-job, none-filled, act-of, act-as, act-in, act-on, in-line, kind-in, job-of, item-of, value-of, kind-of-act, field-text, line-of, Sayable, Within}
 use Rattle.trace.specs.Numbers.{number-of, is-number, leading-zero}
-use Rattle.trace.specs.Pieces.{parted, rejoined}
+use Rattle.trace.specs.Pieces.{parted}
 use Rattle.trace.proofs.Figures.{own}
-use Rattle.trace.proofs.Parting.{Free, free-append, parted-at, parted-none, rejoin}
+use Rattle.trace.proofs.Parting.{Free, free-append, parted-at, parted-none, rejoined, rejoin}
 use Rattle.trace.proofs.Laying.{lined}
 
 apart : {X Y : Type 0} (x : X) (y : Y) → Ok x ≡ Err y → ⊥

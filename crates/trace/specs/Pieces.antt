@@ -23,9 +23,3 @@ onto b (p ∷ ps) = (b ∷ p) ∷ ps
 abbrev pub parted : ℕ → List ℕ → List (List ℕ)
 parted sep [] = [] ∷ []
 parted sep (b ∷ bs) = cond (eqb b sep) ([] ∷ parted sep bs) (onto b (parted sep bs))
-
--- pieces put together again, with a separator between any two
-abbrev pub rejoined : ℕ → List (List ℕ) → List ℕ
-rejoined sep [] = []
-rejoined sep (p ∷ []) = p
-rejoined sep (p ∷ q ∷ ps) = p ++ sep ∷ rejoined sep (q ∷ ps)
