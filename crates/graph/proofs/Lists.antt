@@ -6,7 +6,7 @@ use mathlib.Core.Logic.{_⊎_, inl, inr, ⊎-elim}
 use Prim.Native.Nat.{ℕ, zero, suc, _<_, _≤_}
 use native.Mathlib.Omega.{arith}
 use lib.Dec.{eqb}
-use lib.ListN.{length}
+use lib.ListN.{length, getD, take, replicate}
 use Rattle.std.proofs.shelf.Tests.{cond-both, eqb-true, eqb-false}
 use Rattle.graph.specs.Paths.{_∈_, Distinct}
 
@@ -75,3 +75,38 @@ distinct-few (suc n) xs d b =
     let h = b a (in-strike n a xs i) in
     let ne : a ≡ n → ⊥ = λ e. strike-gone n xs d (subst (λ y. y ∈ strike n xs) e i) in omega arith in
     omega (arith, strike-length n xs, distinct-few n (strike n xs) (strike-distinct n xs d) below)
+
+-- what stands in the front of a list is a member of the front
+pub in-front : (xs : List ℕ) (count k : ℕ) → k < count → k < length xs → getD xs k 0 ∈ take count xs
+in-front [] count k l m = absurd (omega arith)
+in-front (x ∷ xs) zero k l m = absurd (omega arith)
+in-front (x ∷ xs) (suc count) zero l m = inl refl
+in-front (x ∷ xs) (suc count) (suc k) l m = inr (in-front xs count k (omega arith) (omega arith))
+
+-- a member of the front of a list stands somewhere in it
+pub place-in-front : (xs : List ℕ) (count a : ℕ) → a ∈ take count xs → (k : ℕ) × (k < count) × (getD xs k 0 ≡ a)
+place-in-front [] zero a h = absurd h
+place-in-front [] (suc count) a h = absurd h
+place-in-front (x ∷ xs) zero a h = absurd h
+place-in-front (x ∷ xs) (suc count) a (inl e) = (zero, omega arith, sym e)
+place-in-front (x ∷ xs) (suc count) a (inr h) =
+    let p = place-in-front xs count a h in (suc (p .0), omega (arith, p .1), p .2)
+
+-- in a front without repetition a number stands at one place
+pub one-place : (xs : List ℕ) (count p q : ℕ) → Distinct (take count xs) → p < count → q < count → count ≤ length xs
+    → getD xs p 0 ≡ getD xs q 0 → p ≡ q
+one-place [] count p q d l m b e = absurd (omega arith)
+one-place (x ∷ xs) zero p q d l m b e = absurd (omega arith)
+one-place (x ∷ xs) (suc count) zero zero d l m b e = refl
+one-place (x ∷ xs) (suc count) zero (suc q) d l m b e =
+    absurd (d .0 (subst (λ n. n ∈ take count xs) (sym e) (in-front xs count q (omega arith) (omega arith))))
+one-place (x ∷ xs) (suc count) (suc p) zero d l m b e =
+    absurd (d .0 (subst (λ n. n ∈ take count xs) e (in-front xs count p (omega arith) (omega arith))))
+one-place (x ∷ xs) (suc count) (suc p) (suc q) d l m b e =
+    ap suc (one-place xs count p q (d .1) (omega arith) (omega arith) (omega arith) e)
+
+-- a list of zeros has zero at every place
+pub zeros : (k n : ℕ) → _≡_ {A = ℕ} (getD (replicate k 0) n 0) 0
+zeros zero n = refl
+zeros (suc k) zero = refl
+zeros (suc k) (suc n) = zeros k n

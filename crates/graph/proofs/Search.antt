@@ -18,7 +18,7 @@ use Rattle.graph.specs.declared.path.Found.{Found}
 use Rattle.std.specs.declared.option.Option.{Option}
 use Rattle.std.specs.declared.option.Option.the-variants.{Some, None}
 use Rattle.graph.proofs.Paths.{no-way-out, shown-path}
-use Rattle.graph.proofs.Lists.{in-left, in-right, in-push, distinct-push, distinct-few}
+use Rattle.graph.proofs.Lists.{zeros, in-front, place-in-front, in-left, in-right, in-push, distinct-push, distinct-few}
 
 -- a node written before what was written of a list
 written-before : (xs : List ℕ) (count k a : ℕ) → k < count → count ≤ length xs
@@ -72,11 +72,6 @@ pub record Reached (E : Relation) (size start goal : ℕ) (f : Found) : Type 0 w
   pub low : (n : ℕ) → getD (f .from) n 0 < 64
   pub shallow : (n : ℕ) → n ∈ foundNodes f → getD (f .depth) n 0 < f .count
   pub short-of : (n : ℕ) → n ∈ foundNodes f → n ≡ goal → n ≡ start
-
-zeros : (k n : ℕ) → _≡_ {A = ℕ} (getD (replicate k 0) n 0) 0
-zeros zero n = refl
-zeros (suc k) zero = refl
-zeros (suc k) (suc n) = zeros k n
 
 module _ (E : Relation) (size start goal : ℕ) (few : size ≤ 64) where
   pub reached-start : (f : Found) → start < size → Starts start f → Reached E size start goal f
@@ -218,22 +213,6 @@ pub record Searching (E : Relation) (size start goal : ℕ) (f : Found) (head at
   pub here : getD (f .order) head 0 ≡ at
   pub done : (k : ℕ) → k < head → Followed E goal f (getD (f .order) k 0)
   pub begun : Followed (λ i j. (j < to) × E i j) goal f at
-
--- what stands in the front of a list is a member of the front
-in-front : (xs : List ℕ) (count k : ℕ) → k < count → k < length xs → getD xs k 0 ∈ take count xs
-in-front [] count k l m = absurd (omega arith)
-in-front (x ∷ xs) zero k l m = absurd (omega arith)
-in-front (x ∷ xs) (suc count) zero l m = inl refl
-in-front (x ∷ xs) (suc count) (suc k) l m = inr (in-front xs count k (omega arith) (omega arith))
-
--- a member of the front of a list stands somewhere in it
-place-in-front : (xs : List ℕ) (count a : ℕ) → a ∈ take count xs → (k : ℕ) × (k < count) × (getD xs k 0 ≡ a)
-place-in-front [] zero a h = absurd h
-place-in-front [] (suc count) a h = absurd h
-place-in-front (x ∷ xs) zero a h = absurd h
-place-in-front (x ∷ xs) (suc count) a (inl e) = (zero, omega arith, sym e)
-place-in-front (x ∷ xs) (suc count) a (inr h) =
-    let p = place-in-front xs count a h in (suc (p .0), omega (arith, p .1), p .2)
 
 module _ (E : Relation) (size start goal : ℕ) (few : size ≤ 64) where
   pub searched-none : (f : Found) → start < size → Starts start f → Searched E size start goal f 0

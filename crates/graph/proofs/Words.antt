@@ -88,6 +88,13 @@ bit-not (suc w) set (suc k) s l =
     has-step (2 ^ suc w - 1 - set) k ∙ ap (λ x. has x k) e
     ∙ bit-not w (set / 2) k (omega (arith, pow-suc 2 w)) (omega arith) ∙ ap not (sym (has-step set k))
 
+-- a node is in a set without another if it is in the first alone
+pub bit-minus : (w a b k : ℕ) → a < 2 ^ w → b < 2 ^ w → has (bitAnd a (2 ^ w - 1 - b)) k ≡ (has a k && not (has b k))
+bit-minus w a b k s t = elim (cases-lt k w) [
+  | inl l ↦ bit-and a (2 ^ w - 1 - b) k ∙ ap (λ x. has a k && x) (bit-not w b k t l)
+  | inr l ↦ rw (bit-and a (2 ^ w - 1 - b) k, bit-past w a k s l)
+]
+
 -- a node is in a set that it was added to, and any other stays
 pub bit-set : (w set n k : ℕ) → n < w → has (bitOr set ((1 * 2 ^ n) % 2 ^ w)) k ≡ (has set k || eqb k n)
 bit-set w set n k l = rw (one-shl n w l, bit-or set (2 ^ n) k, bit-one n k)
@@ -95,10 +102,8 @@ bit-set w set n k l = rw (one-shl n w l, bit-or set (2 ^ n) k, bit-one n k)
 -- a node is not in a set that it was taken from, and any other stays
 pub bit-clear : (w set n k : ℕ) → set < 2 ^ w → n < w
     → has (bitAnd set (2 ^ w - 1 - (1 * 2 ^ n) % 2 ^ w)) k ≡ (has set k && not (eqb k n))
-bit-clear w set n k s l = elim (cases-lt k w) [
-  | inl b ↦ rw (one-shl n w l, bit-and set (2 ^ w - 1 - 2 ^ n) k, bit-not w (2 ^ n) k (pow-below n w l) b, bit-one n k)
-  | inr b ↦ rw (bit-and set (2 ^ w - 1 - (1 * 2 ^ n) % 2 ^ w) k, bit-past w set k s b)
-]
+bit-clear w set n k s l =
+    rw (one-shl n w l) (bit-minus w set (2 ^ n) k s (pow-below n w l) ∙ ap (λ x. has set k && not x) (bit-one n k))
 
 -- the test of a bit by a shift and a mask
 pub bit-mask : (set k : ℕ) → eqb (bitAnd (set / 2 ^ k) 1) 1 ≡ has set k

@@ -2,7 +2,7 @@
 ghost use Prim.Native.Nat.{ℕ, _<_, _≤_};
 ghost use denote.Ref.{now};
 ghost use lib.Dec.{ltb};
-ghost use lib.ListN.{getD};
+ghost use lib.ListN.{length};
 ghost use mathlib.Core.Bool.{true, false, cond};
 ghost use mathlib.Core.Path.{_≡_};
 ghost use Rattle.graph.specs.Edges.{Edges};
@@ -70,6 +70,7 @@ pub fn next_free<G: Graph>(
 // as having key 0.
 pub fn topological_order<G: Graph>(graph: &G, keys: &[u32], set: NodeSet) -> NodeList
     ensures count { λ r. ⌜ r .count ≤ 64 ⌝ }
+    ensures places { λ r. ⌜ length (r .nodes) ≡ 64 ⌝ }
     ensures order { λ r. ⌜ Orders (Edges (G·Graph .size (now (graph .entry))) (G·Graph .leads (now (graph .entry)))) (G·Graph .size (now (graph .entry))) (now (keys .entry)) set (listed r) ⌝ }
 {
     let mut nodes = [0; 64];

@@ -1,7 +1,7 @@
 // Path search, breadth first.
 ghost use Prim.Native.Nat.{ℕ, _+_, _<_, _≤_};
 ghost use denote.Ref.{now};
-ghost use lib.ListN.{getD};
+ghost use lib.ListN.{length, getD};
 ghost use mathlib.Core.Bool.{true, false};
 ghost use mathlib.Core.List.{[]};
 ghost use mathlib.Core.Path.{_≡_};
@@ -64,6 +64,7 @@ impl Found {
     fn way_to(&self, node: usize) -> NodeList
         requires { ⌜ (node < 64) × (getD (now self .depth) node 0 < 64) × ((k : ℕ) → getD (now self .from) k 0 < 64) ⌝ }
         ensures count { λ r. ⌜ r .count ≤ 64 ⌝ }
+        ensures places { λ r. ⌜ length (r .nodes) ≡ 64 ⌝ }
         ensures way { λ r. ⌜ listed r ≡ wayBefore (now (self .entry) .from) (getD (now (self .entry) .depth) node 0 + 1) node [] ⌝ }
     {
         let mut nodes = [0; 64];
@@ -79,16 +80,12 @@ impl Found {
     }
 }
 
-// A path of one edge or more from the start to the goal, found breadth first: its nodes from the start on, without
-// the goal at its end. Start and goal may be the same: the path is then a cycle. None is answered where there is no
-// such path.
-pub fn find_path<G: Graph>(graph: &G, start: usize, goal: usize) -> Option<NodeList>
+// The search from a start that is a node of the graph. A node from which an edge leads to the goal ends it.
+fn search<G: Graph>(graph: &G, start: usize, goal: usize) -> Option<NodeList>
+    requires { ⌜ start < G·Graph .size (now graph) ⌝ }
     ensures { λ r. ⌜ Finds (Edges (G·Graph .size (now (graph .entry))) (G·Graph .leads (now (graph .entry)))) start goal r ⌝ }
 {
     let size = graph.size();
-    if start >= size {
-        return None;
-    }
     let mut found = Found::start(start);
     let mut head = 0;
     let mut last = None;
@@ -108,5 +105,18 @@ pub fn find_path<G: Graph>(graph: &G, start: usize, goal: usize) -> Option<NodeL
     match last {
         Some(at) => Some(found.way_to(at)),
         None => None,
+    }
+}
+
+// A path of one edge or more from the start to the goal, found breadth first: its nodes from the start on, without
+// the goal at its end. Start and goal may be the same: the path is then a cycle. None is answered where there is no
+// such path.
+pub fn find_path<G: Graph>(graph: &G, start: usize, goal: usize) -> Option<NodeList>
+    ensures { λ r. ⌜ Finds (Edges (G·Graph .size (now (graph .entry))) (G·Graph .leads (now (graph .entry)))) start goal r ⌝ }
+{
+    if start < graph.size() {
+        search(graph, start, goal)
+    } else {
+        None
     }
 }

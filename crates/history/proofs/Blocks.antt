@@ -14,6 +14,7 @@ use Rattle.trace.specs.declared.act.Act.{Act}
 use Rattle.trace.specs.declared.act.Act.the-variants.{Open, Read, Write, Commit, Abort, Peek, Retire}
 use Rattle.graph.specs.Paths.{Relation, _∈_, Distinct, Forward}
 use Rattle.history.specs.Acts.{Keep, Kept}
+use Rattle.history.proofs.Lists.{∈-left, ∈-right, ∈-split, distinct-join}
 use Rattle.history.specs.Conflicts.{Access, accesses, Conflict, Meets, Leads, Edge, SerialOrder}
 use Rattle.history.specs.Arrangements.{Is, Stands, Precedes, Ordered, Equivalent, SerialArrangement, ConflictSerializable}
 
@@ -121,30 +122,9 @@ places-distinct n j (a ∷ H) =
 
 -- lists of positions, one after another
 
-in-left : (x : ℕ) (xs ys : List ℕ) → x ∈ xs → x ∈ xs ++ ys
-in-left x [] ys h = absurd h
-in-left x (z ∷ xs) ys (inl e) = inl e
-in-left x (z ∷ xs) ys (inr h) = inr (in-left x xs ys h)
-
-in-right : (x : ℕ) (xs ys : List ℕ) → x ∈ ys → x ∈ xs ++ ys
-in-right x [] ys h = h
-in-right x (z ∷ xs) ys h = inr (in-right x xs ys h)
-
-in-either : (x : ℕ) (xs ys : List ℕ) → x ∈ xs ++ ys → (x ∈ xs) ⊎ (x ∈ ys)
-in-either x [] ys h = inr h
-in-either x (z ∷ xs) ys (inl e) = inl (inl e)
-in-either x (z ∷ xs) ys (inr h) = ⊎-elim (λ m. inl (inr m)) inr (in-either x xs ys h)
-
-distinct-both : (xs ys : List ℕ) → Distinct xs → Distinct ys → ((x : ℕ) → x ∈ xs → x ∈ ys → ⊥) → Distinct (xs ++ ys)
-distinct-both [] ys d e apart = e
-distinct-both (z ∷ xs) ys d e apart = (
-  λ m. ⊎-elim (d .0) (apart z (inl refl)) (in-either z xs ys m),
-  distinct-both xs ys (d .1) e (λ x m. apart x (inr m)),
-)
-
 precedes-left : (p q : ℕ) (xs ys : List ℕ) → Precedes p q xs → Precedes p q (xs ++ ys)
 precedes-left p q [] ys h = absurd h
-precedes-left p q (x ∷ xs) ys (inl h) = inl (h .0, in-left q xs ys (h .1))
+precedes-left p q (x ∷ xs) ys (inl h) = inl (h .0, ∈-left q xs ys (h .1))
 precedes-left p q (x ∷ xs) ys (inr h) = inr (precedes-left p q xs ys h)
 
 precedes-right : (p q : ℕ) (xs ys : List ℕ) → Precedes p q ys → Precedes p q (xs ++ ys)
@@ -153,7 +133,7 @@ precedes-right p q (x ∷ xs) ys h = inr (precedes-right p q xs ys h)
 
 precedes-across : (p q : ℕ) (xs ys : List ℕ) → p ∈ xs → q ∈ ys → Precedes p q (xs ++ ys)
 precedes-across p q [] ys f g = absurd f
-precedes-across p q (x ∷ xs) ys (inl e) g = inl (e, in-right q xs ys g)
+precedes-across p q (x ∷ xs) ys (inl e) g = inl (e, ∈-right q xs ys g)
 precedes-across p q (x ∷ xs) ys (inr f) g = inr (precedes-across p q xs ys f g)
 
 -- how one position comes before another in two lists, one after the other
@@ -162,7 +142,7 @@ Split p q xs ys = Precedes p q xs ⊎ (((p ∈ xs) × (q ∈ ys)) ⊎ Precedes p
 
 precedes-split : (p q : ℕ) (xs ys : List ℕ) → Precedes p q (xs ++ ys) → Split p q xs ys
 precedes-split p q [] ys h = inr (inr h)
-precedes-split p q (x ∷ xs) ys (inl h) = ⊎-elim (λ m. inl (inl (h .0, m))) (λ m. inr (inl (inl (h .0), m))) (in-either q xs ys (h .1))
+precedes-split p q (x ∷ xs) ys (inl h) = ⊎-elim (λ m. inl (inl (h .0, m))) (λ m. inr (inl (inl (h .0), m))) (∈-split q xs ys (h .1))
 precedes-split p q (x ∷ xs) ys (inr h) = ⊎-elim (λ f. inl (inr f)) (λ r. inr (⊎-elim (λ f. inl (inr (f .0), f .1)) inr r)) (precedes-split p q xs ys h)
 
 precedes-ends : (p q : ℕ) (xs : List ℕ) → Precedes p q xs → (p ∈ xs) × (q ∈ xs)
@@ -198,14 +178,14 @@ blocks H (j ∷ order) = places 0 j H ++ blocks H order
 blocks-in : (H : List Act) (p j : ℕ) (order : List ℕ) → j ∈ order → p ∈ places 0 j H → p ∈ blocks H order
 unfolding blocks
 blocks-in H p j [] m h = absurd m
-blocks-in H p j (k ∷ order) (inl e) h = in-left p (places 0 k H) (blocks H order) (subst (λ i. p ∈ places 0 i H) e h)
-blocks-in H p j (k ∷ order) (inr m) h = in-right p (places 0 k H) (blocks H order) (blocks-in H p j order m h)
+blocks-in H p j (k ∷ order) (inl e) h = ∈-left p (places 0 k H) (blocks H order) (subst (λ i. p ∈ places 0 i H) e h)
+blocks-in H p j (k ∷ order) (inr m) h = ∈-right p (places 0 k H) (blocks H order) (blocks-in H p j order m h)
 
 blocks-only : (H : List Act) (p : ℕ) (order : List ℕ) → p ∈ blocks H order → (j : ℕ) × (j ∈ order) × (p ∈ places 0 j H)
 unfolding blocks
 blocks-only H p [] h = absurd h
 blocks-only H p (k ∷ order) h =
-    ⊎-elim (λ m. (k, inl refl, m)) (λ m. let r = blocks-only H p order m in (r .0, inr (r .1), r .2)) (in-either p (places 0 k H) (blocks H order) h)
+    ⊎-elim (λ m. (k, inl refl, m)) (λ m. let r = blocks-only H p order m in (r .0, inr (r .1), r .2)) (∈-split p (places 0 k H) (blocks H order) h)
 
 blocks-within : (H : List Act) (p q j : ℕ) (order : List ℕ) → j ∈ order → Precedes p q (places 0 j H) → Precedes p q (blocks H order)
 unfolding blocks
@@ -294,7 +274,7 @@ blocks-distinct : (H : List Act) (order : List ℕ) → Distinct order → Disti
 unfolding blocks
 blocks-distinct H [] d = tt
 blocks-distinct H (j ∷ order) d =
-    distinct-both (places 0 j H) (blocks H order) (places-distinct 0 j H) (blocks-distinct H order (d .1))
+    distinct-join (places 0 j H) (blocks H order) (places-distinct 0 j H) (blocks-distinct H order (d .1))
     (λ p f g. let r = blocks-only H p order g in d .0 (subst (λ i. i ∈ order) (sym (one-block H p j (r .0) f (r .2))) (r .1)))
 
 module _ (keep : Keep) (H : List Act) (order : List ℕ) (serial : SerialOrder keep H order) where

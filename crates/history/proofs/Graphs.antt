@@ -8,11 +8,12 @@ use mathlib.Core.List.{List, [], _∷_, _++_}
 use Prim.Native.Nat.{ℕ}
 use native.Mathlib.Omega.{arith}
 use lib.Dec.{T}
+use Rattle.graph.proofs.Paths.{path-map}
 use Rattle.graph.specs.Paths.{Relation, Path, Cycle, _∈_, Distinct, Forward}
 use Rattle.history.specs.Acts.{Fate, not-aborted}
 use Rattle.history.specs.Conflicts.{Access, Leads}
 use Rattle.history.proofs.Lists.{∈-split, ∈-left, forward-weaken, forward-join, distinct-join}
-use Rattle.history.proofs.Paths.{Drawn, path-map, cycle-by-new, path-stays}
+use Rattle.history.proofs.Paths.{Drawn, cycle-by-new, path-stays}
 use Rattle.history.proofs.Records.{leads-more}
 use Rattle.history.proofs.Marks.{Edged}
 

@@ -10,6 +10,7 @@ use lib.ListN.{length}
 use Rattle.std.proofs.shelf.Tests.{eqb-true, eq-eqb, ne-eqb, or-cases, or-left, or-right, and-parts, and-from, leb-true, leb-false}
 use Rattle.std.specs.declared.option.Option.{Option}
 use Rattle.std.specs.declared.option.Option.the-variants.{Some, None}
+use Rattle.graph.proofs.Paths.{path-map}
 use Rattle.graph.specs.Paths.{Path, _∈_}
 use Rattle.trace.specs.declared.act.Act.{Act}
 use Rattle.history.specs.declared.holding.Holding.{Holding}
@@ -22,7 +23,7 @@ use Rattle.history.specs.Machine.{State, Status, made, jobs, served, holdings,
 use Rattle.history.specs.Runs.{acts-of, retired-of}
 use Rattle.history.specs.Laws.{Reached, but-room, OneOutcome, RefusalsChangeNothing, ConflictsAbort, StepEdge, Unbarred, RefusedOnPath, ExactTest, MayRetire, Retirement, RetiresSmallest}
 use Rattle.history.proofs.Lists.{true-not-false, T-true, true-T, mem, ∈-mem, Ascending, first-smallest}
-use Rattle.history.proofs.Paths.{Drawn, path-map, path-sound, path-found}
+use Rattle.history.proofs.Paths.{Drawn, path-sound, path-found}
 use Rattle.history.proofs.Graphs.{committed-kept}
 use Rattle.history.proofs.Values.{FreeOr, free, own}
 use Rattle.history.proofs.Fates.{shown-committed}

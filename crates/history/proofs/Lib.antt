@@ -1,6 +1,7 @@
 pub mod Arrangements
 pub mod Blocks
 pub mod Changes
+pub mod Equivalence
 pub mod Examples
 pub mod Fates
 pub mod Graphs

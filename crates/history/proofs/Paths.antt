@@ -7,20 +7,13 @@ use mathlib.Core.List.{List, [], _∷_, _++_}
 use Prim.Native.Nat.{ℕ}
 use Rattle.std.proofs.shelf.Tests.{cases-bool, or-cases, or-left, or-right, and-parts, and-from, not-from-true, not-from-false}
 use Rattle.graph.specs.Paths.{Relation, Path, edge, _then_, Cycle, _∈_, Distinct, Forward}
+use Rattle.graph.proofs.Paths.{path-map, path-join}
 use Rattle.history.specs.Machine.{those, path}
 use Rattle.history.proofs.Lists.{true-not-false, ∈-split, ∈-left, ∈-right, ∈-those, those-∈, forward-join, forward-those, distinct-those, distinct-join}
 
 -- a test between nodes as a relation
 abbrev pub Drawn : (ℕ → ℕ → Bool) → Relation
 Drawn e i j = e i j ≡ true
-
-pub path-join : {E : Relation} {i j k : ℕ} → Path E i j → Path E j k → Path E i k
-path-join (edge e) q = _then_ e q
-path-join (_then_ e p) q = _then_ e (path-join p q)
-
-pub path-map : {E D : Relation} {i j : ℕ} → ((a b : ℕ) → E a b → D a b) → Path E i j → Path D i j
-path-map {i} {j} f (edge e) = edge (f i j e)
-path-map {i} f (_then_ {j = m} e p) = _then_ (f i m e) (path-map f p)
 
 -- paths whose inner nodes are all listed
 data Via (ks : List ℕ) (E : Relation) : ℕ → ℕ → Type 0 where

@@ -11,6 +11,7 @@ use Rattle.std.proofs.shelf.Tests.{leb-true}
 use Rattle.std.proofs.shelf.Lists.{ext-getD}
 use Rattle.std.specs.declared.option.Option.{Option}
 use Rattle.std.specs.declared.option.Option.the-variants.{Some, None}
+use Rattle.graph.proofs.Paths.{path-map}
 use Rattle.graph.specs.Paths.{Path, edge, Cycle, _∈_, Distinct}
 use Rattle.trace.specs.declared.act.Act.{Act}
 use Rattle.trace.specs.declared.act.Act.the-variants.{Read, Write}
@@ -25,7 +26,7 @@ use Rattle.history.specs.Machine.{State, made, jobs, rising, those, served, se
 use Rattle.history.specs.Runs.{acts-of, retired-of}
 use Rattle.history.specs.Promises.{FreeFor, WouldCycle, RefusedForCycle, Serializable, EveryRunSerializable}
 use Rattle.history.proofs.Lists.{true-not-false, T-true, true-T, mem, ∈-mem, ∈-dec, ∈-left, ∈-right, ∈-split, ∈-those, those-∈, distinct-those, distinct-rising, distinct-join, forward-join, forward-weaken}
-use Rattle.history.proofs.Paths.{Drawn, path-map, path-sound, path-found, ordered, ordered-only, ordered-all, ordered-distinct, ordered-forward}
+use Rattle.history.proofs.Paths.{Drawn, path-sound, path-found, ordered, ordered-only, ordered-all, ordered-distinct, ordered-forward}
 use Rattle.history.proofs.Replay.{Replay, kept, ByJobs, in-order-kept, leads-kept, replay-order, replay-serial}
 use Rattle.history.proofs.Records.{Did, did-wrote, leads-more, met-did, fate-more, accesses-join}
 use Rattle.history.proofs.Graphs.{Among}

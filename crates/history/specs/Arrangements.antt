@@ -1,7 +1,7 @@
 -- Conflict equivalence to a serial schedule. An arrangement lists the reads and writes of the jobs that
 -- count in some order, each named by its position among the acts. Rests on Conflicts.
 use mathlib.Core.Path.{_≡_}
-use mathlib.Core.Logic.{_⊎_}
+use mathlib.Core.Logic.{_⊎_, _↔_}
 use mathlib.Core.Bool.{true, false}
 use mathlib.Core.List.{List, [], _∷_}
 use Prim.Native.Nat.{ℕ, _<_}
@@ -9,7 +9,7 @@ use lib.ListN.{getD}
 use Rattle.trace.specs.declared.act.Act.{Act}
 use Rattle.trace.specs.declared.act.Act.the-variants.{Open, Read, Write, Commit, Abort, Peek, Retire}
 use Rattle.graph.specs.Paths.{_∈_, Distinct, Cycle}
-use Rattle.history.specs.Acts.{Keep, Kept}
+use Rattle.history.specs.Acts.{Keep, Kept, unopened}
 use Rattle.history.specs.Conflicts.{Access, Conflict, Edge}
 
 -- the act is this read or write
@@ -53,3 +53,9 @@ SerialArrangement H arrangement =
 -- the jobs that count are conflict equivalent to some serial schedule
 abbrev pub ConflictSerializable : Keep → List Act → Type 0
 ConflictSerializable keep H = (arrangement : List ℕ) × Equivalent keep H arrangement × SerialArrangement H arrangement
+
+-- the jobs that count are conflict equivalent to some serial schedule exactly when their conflict graph has
+-- no cycle; a job that was never opened does not count
+abbrev pub SerializableExactlyWithoutCycle : Type 0
+SerializableExactlyWithoutCycle =
+    (keep : Keep) (H : List Act) → keep unopened ≡ false → ConflictSerializable keep H ↔ (Cycle (Edge keep H) → ⊥)

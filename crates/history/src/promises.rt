@@ -1,5 +1,6 @@
 // What is proved of the machine, each as the contract of a function that does nothing: so the check
 // asks for its proof.
+ghost use Rattle.history.specs.Arrangements.{SerializableExactlyWithoutCycle};
 ghost use Rattle.history.specs.Machine.{State, Call};
 ghost use Rattle.history.specs.Promises.{EveryRunSerializable};
 ghost use Rattle.history.specs.Laws.{OneOutcome, RefusalsChangeNothing, ConflictsAbort, ExactTest, RetiresSmallest};
@@ -34,4 +35,9 @@ fn retires_smallest()
 // The worked examples hold.
 fn worked_examples()
     ensures { λ _. ⌜ WorkedExamples ⌝ }
+{}
+
+// Jobs are conflict equivalent to a serial schedule exactly when their conflict graph has no cycle.
+fn serializable_exactly_without_cycle()
+    ensures { λ _. ⌜ SerializableExactlyWithoutCycle ⌝ }
 {}

@@ -22,7 +22,7 @@ impl<S: Store> Hub<S> {
     //
     // `serializable` is the promise of the hub: after every list of calls, the committed jobs have a serial
     // order; each of them, run serially, answers every read as the hub did and ends with the store's
-    // contents; the retired numbers begin one; and a step on an item that no other job holds is refused for
+    // contents; the retired numbers begin one; and a step on an item held by no other job is refused for
     // conflict exactly when it would close a cycle in the conflict graph of the whole run.
     pub fn new(store: S, first: u32) -> Hub<S>
         ensures store { λ r. ⌜ r .store ≡ store ⌝ }

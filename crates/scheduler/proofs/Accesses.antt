@@ -31,17 +31,13 @@ stepped t k marks x it = record {
 
 -- a set with slot k added
 abbrev Added : ℕ → ℕ → ℕ → Type 0
-Added set k set′ = (a : ℕ) → has set′ a ≡ (has set a || (eqb a k && ltb k 64))
+Added set k set′ = (a : ℕ) → has set′ a ≡ (has set a || (ltb k 64 && eqb a k))
 
 or-swap : (a b : Bool) → (a || b) ≡ (b || a)
 or-swap true true = refl
 or-swap true false = refl
 or-swap false true = refl
 or-swap false false = refl
-
-and-true : (b : Bool) → (b && true) ≡ b
-and-true true = refl
-and-true false = refl
 
 module _ (t : Tables) (sound : Sound t) (j k : ℕ) (is : k ≡ slot-of j (t .jobs .slots)) (within : k < 32) where
   module _ (x from marks : ℕ) (writes : Bool) (sources : Sources (item (t .items) x) writes k from) (low : x < 64) (joined : (a : ℕ) → has marks a ≡ (has (row (t .jobs .edges) k) a || has from a)) where
@@ -93,14 +89,14 @@ module _ (t : Tables) (sound : Sound t) (j k : ℕ) (is : k ≡ slot-of j (t .jo
   added-job : (set set′ : ℕ) → Added set k set′ → (i : ℕ) → has set′ (slot-of i (t .jobs .slots)) ≡ with-one j (λ n. has set (slot-of n (t .jobs .slots))) i
   added-job set set′ added i =
       added (slot-of i (t .jobs .slots))
-      ∙ ap (λ c. has set (slot-of i (t .jobs .slots)) || (eqb (slot-of i (t .jobs .slots)) k && c)) (lt-ltb k 64 (omega arith))
-      ∙ ap (λ c. has set (slot-of i (t .jobs .slots)) || c) (and-true _ ∙ tell t sound j k is within i)
+      ∙ ap (λ c. has set (slot-of i (t .jobs .slots)) || (c && eqb (slot-of i (t .jobs .slots)) k)) (lt-ltb k 64 (omega arith))
+      ∙ ap (λ c. has set (slot-of i (t .jobs .slots)) || c) (tell t sound j k is within i)
       ∙ or-swap (has set (slot-of i (t .jobs .slots))) (eqb i j)
 
   added-taken : (set set′ : ℕ) → Added set k set′ → ((a : ℕ) → has set a ≡ true → Taken (t .jobs .slots) a) → (a : ℕ) → has set′ a ≡ true → Taken (t .jobs .slots) a
   added-taken set set′ added old a e = elim (or-cases (has set a) _ (sym (added a) ∙ e)) [
     | inl h ↦ old a h
-    | inr h ↦ subst (Taken (t .jobs .slots)) (sym (eqb-true a k (and-parts (eqb a k) (ltb k 64) h .0))) (belongs-taken j _ (mine t sound j k is within))
+    | inr h ↦ subst (Taken (t .jobs .slots)) (sym (eqb-true a k (and-parts (ltb k 64) (eqb a k) h .1))) (belongs-taken j _ (mine t sound j k is within))
   ]
 
   module _ (x from marks : ℕ) (low : x < 64) (joined : (a : ℕ) → has marks a ≡ (has (row (t .jobs .edges) k) a || has from a)) where

@@ -10,7 +10,7 @@ use lib.ListN.{length, take, set, getD}
 use Rattle.std.proofs.shelf.Tests.{cases-order, eq-eqb, ne-eqb, lt-ltb, le-ltb}
 use Rattle.std.proofs.shelf.Lists.{take-more-set, map-more, take-all, length-set}
 use Rattle.graph.specs.Nodes.{has}
-use Rattle.graph.proofs.Words.{bit-none}
+use Rattle.graph.proofs.Words.{bit-none, and-true}
 use Rattle.scheduler.specs.declared.slots.Slot.{Slot}
 
 -- the set has the places below n that pass
@@ -38,9 +38,10 @@ below-next p n b e a = elim (cases-order a n) [
     or-none true = refl
     or-none false = refl
 
-pub gathered-with : (p : ℕ → Bool) (n old new : ℕ) → n < 64 → Gathered p n old → p n ≡ true → ((a : ℕ) → has new a ≡ (has old a || (eqb a n && ltb n 64))) → Gathered p (n + 1) new
+pub gathered-with : (p : ℕ → Bool) (n old new : ℕ) → n < 64 → Gathered p n old → p n ≡ true → ((a : ℕ) → has new a ≡ (has old a || (ltb n 64 && eqb a n))) → Gathered p (n + 1) new
 gathered-with p n old new low g e h a =
-    h a ∙ ap (λ c. has old a || (eqb a n && c)) (lt-ltb n 64 low) ∙ ap (λ c. c || (eqb a n && true)) (g a) ∙ sym (below-next p n true e a)
+    h a ∙ ap (λ c. has old a || (c && eqb a n)) (lt-ltb n 64 low) ∙ ap (λ c. has old a || c) (sym (and-true (eqb a n))) ∙ ap (λ c. c || (eqb a n && true)) (g a)
+    ∙ sym (below-next p n true e a)
 
 pub gathered-past : (p : ℕ → Bool) (n old : ℕ) → Gathered p n old → p n ≡ false → Gathered p (n + 1) old
 gathered-past p n old g e a = g a ∙ sym (below-next p n false e a ∙ none (ltb a n && p a) (eqb a n))

@@ -10,7 +10,7 @@ use mathlib.Core.Bool.{Bool, true, false, cond}
 use mathlib.Core.Logic.{inl, inr}
 use Rattle.std.specs.declared.result.Result.{Result}
 use Rattle.std.specs.declared.result.Result.the-variants.{Ok, Err}
-use Rattle.std.proofs.shelf.Tests.{cases-bool, lt-leb}
+use Rattle.std.proofs.shelf.Tests.{cases-bool, leb-true}
 use lib.ListN.{length, take, drop, set, length-append, length-drop}
 use Rattle.std.specs.Written.{decimal}
 use Rattle.std.proofs.shelf.Decimals.{decimal-digit, decimal-step, length-decimal-le}
@@ -19,7 +19,8 @@ use Rattle.std.specs.declared.option.Option.{Option}
 use Rattle.std.specs.declared.option.Option.the-variants.{Some, None}
 use Rattle.trace.specs.declared.act.Act.{Act}
 use Rattle.trace.specs.Kinds.{letter}
-use Rattle.trace.specs.Lines.{field-text, job-of, item-of, value-of, kind-of-act, line-of}
+use Rattle.trace.specs.Lines.{field-text, job-of, item-of, value-of, kind-of-act, line-of, Within}
+use Rattle.trace.specs.declared.fault.Column.the-variants.{Item}
 use Rattle.trace.specs.declared.fault.WriteRefusal.{WriteRefusal}
 use Rattle.trace.specs.declared.fault.WriteRefusal.the-variants.{ItemAboveLimit, DoesNotFit}
 use Rattle.trace.specs.Writing.{over, item-checked, fitted, writing}
@@ -128,8 +129,15 @@ checked (Some x) u r h = elim (cases-bool (leb x 63)) [ inl e ↦ rw e refl | in
     lost : Ok u ≡ Err (ItemAboveLimit x) → ⊥
     lost q = let z : _≡_ {A = ℕ} 0 1 = cc in omega arith
 
-pub refused-long : (a : Act) (item : Option ℕ) (room n : ℕ) (u : Unit {0}) → item ≡ item-of a → Ok u ≡ item-checked item (Ok tt) → n ≡ length (line-of a) → room < n → Err (DoesNotFit n) ≡ writing a room
-refused-long a item room n u e h l long =
+pub item-said : (item : Option ℕ) (u : Unit {0}) → Ok u ≡ item-checked item (Ok tt) → Within Item item
+item-said None u h = tt
+item-said (Some x) u h = elim (cases-bool (leb x 63)) [ inl e ↦ leb-true x 63 e | inr e ↦ absurd (lost (rw e at h)) ]
+  where
+    lost : Ok u ≡ Err (ItemAboveLimit x) → ⊥
+    lost q = let z : _≡_ {A = ℕ} 0 1 = cc in omega arith
+
+-- an item that was let through leaves the room to decide
+pub measured-one : (a : Act) (item : Option ℕ) (room n : ℕ) (u : Unit {0}) (r : Result ℕ WriteRefusal) → item ≡ item-of a → Ok u ≡ item-checked item (Ok tt) → n ≡ length (line-of a) → r ≡ fitted room n → (r ≡ writing a room) × Within Item (item-of a)
+measured-one a item room n u r e h l f =
     let named : Ok u ≡ item-checked (item-of a) (Ok tt) = h ∙ ap (λ o. item-checked o (Ok tt)) e in
-    let short : leb (length (line-of a)) room ≡ false = lt-leb (length (line-of a)) room (omega arith) in
-    sym (checked (item-of a) u (fitted room (length (line-of a))) named ∙ ap (λ b. cond b (Ok (length (line-of a))) (Err (DoesNotFit (length (line-of a))))) short ∙ ap (λ m. Err (DoesNotFit m)) (sym l))
+    (f ∙ ap (fitted room) l ∙ sym (checked (item-of a) u (fitted room (length (line-of a))) named), item-said (item-of a) u named)

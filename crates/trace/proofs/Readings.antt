@@ -24,20 +24,20 @@ use Rattle.trace.specs.declared.fault.ReadRefusal.{ReadRefusal}
 use Rattle.trace.specs.declared.fault.ReadRefusal.the-variants.{Line, Full}
 use Rattle.trace.specs.Lines.{act-on}
 use Rattle.trace.specs.Pieces.{parted, before, behind}
-use Rattle.trace.specs.Traces.{in-place, with-length, first-line, Reading, ends, also, place-of, at-fault, last, line-read, reading, reading-of, numbered, answered, answer, list-after}
-use Rattle.trace.proofs.Parting.{take-before, cut-front, some-piece, parted-unended, parted-ended, before-short}
+use Rattle.trace.specs.Traces.{in-place, with-length, end-of, line-to, first-line, Reading, ends, also, place-of, at-fault, last, line-read, reading, reading-of, numbered, answered, answer, list-after}
+use Rattle.trace.proofs.Parting.{take-before, some-piece, parted-unended, parted-ended, before-short}
 
--- the first line, where it is ended
+-- the first line, as the slice up to its end is read
 
-ended : (place : LinePlace) (bs : List ℕ) (n : ℕ) → n ≡ length (before 10 bs) → (n ≡ length bs → ⊥) → first-line place bs ≡ with-length (n + 1) (in-place place (act-on (take (n - 0) bs)))
-ended place bs n e ne =
-    rw (cut-front 10 bs n e, e, ne-eqb (length (before 10 bs)) (length bs) (λ h. ne (e ∙ h))) refl
+line-told : (place : LinePlace) (bs : List ℕ) (n : ℕ) (r : Result Act LineFault) → Some n ≡ end-of bs → r ≡ in-place place (act-on (take (n - 0) bs)) → with-length (n + 1) r ≡ first-line place bs
+line-told place bs n r e h =
+    ap (with-length (n + 1)) (h ∙ ap (λ m. in-place place (act-on (take m bs))) (sub-zero n)) ∙ ap (line-to place bs) e
 
-pub first-bad : (place : LinePlace) (bs : List ℕ) (n : ℕ) (f : LineFault) → n ≡ length (before 10 bs) → (n ≡ length bs → ⊥) → in-place place (act-on (take (n - 0) bs)) ≡ Err f → Err f ≡ first-line place bs
-first-bad place bs n f e ne h = sym (ended place bs n e ne ∙ ap (with-length (n + 1)) h)
+pub first-bad : (place : LinePlace) (bs : List ℕ) (n : ℕ) (f : LineFault) → Some n ≡ end-of bs → Err f ≡ in-place place (act-on (take (n - 0) bs)) → Err f ≡ first-line place bs
+first-bad place bs n f e h = line-told place bs n (Err f) e h
 
-pub first-good : (place : LinePlace) (bs : List ℕ) (n : ℕ) (a : Act) → n ≡ length (before 10 bs) → (n ≡ length bs → ⊥) → in-place place (act-on (take (n - 0) bs)) ≡ Ok a → Ok (a, n + 1) ≡ first-line place bs
-first-good place bs n a e ne h = sym (ended place bs n e ne ∙ ap (with-length (n + 1)) h)
+pub first-good : (place : LinePlace) (bs : List ℕ) (n : ℕ) (a : Act) → Some n ≡ end-of bs → Ok a ≡ in-place place (act-on (take (n - 0) bs)) → Ok (a, n + 1) ≡ first-line place bs
+first-good place bs n a e h = line-told place bs n (Ok a) e h
 
 -- the reading, one line on
 
@@ -61,7 +61,9 @@ first-unended : (place : LinePlace) (bs : List ℕ) → length (before 10 bs) �
 first-unended place bs e = rw (eq-eqb (length (before 10 bs)) (length bs) e) refl
 
 pub first-ended : (place : LinePlace) (bs : List ℕ) → (length (before 10 bs) ≡ length bs → ⊥) → first-line place bs ≡ with-length (length (before 10 bs) + 1) (in-place place (act-on (before 10 bs)))
-first-ended place bs ne = rw (ne-eqb (length (before 10 bs)) (length bs) ne) refl
+first-ended place bs ne =
+    rw (ne-eqb (length (before 10 bs)) (length bs) ne)
+    (ap (λ l. with-length (length (before 10 bs) + 1) (in-place place (act-on l))) (take-before 10 bs))
 
 pub bad-line : (room n start : ℕ) (bs : List ℕ) (f : LineFault) → 0 < length bs → first-line (place-of n start) bs ≡ Err f → reading room n start (parted 10 bs) ≡ ends (Some (Line f))
 bad-line room n start bs f h e = elim (cases-eq (length (before 10 bs)) (length bs)) [ inl q ↦ short q | inr ne ↦ by (act-on (before 10 bs)) refl ne ]

@@ -36,11 +36,19 @@ abbrev pub with-length : ℕ → Result Act LineFault → Result (Act × ℕ) Li
 with-length n (Ok a) = Ok (a, n)
 with-length n (Err fault) = Err fault
 
+-- the place of the first line end, if there is one
+abbrev pub end-of : List ℕ → Option ℕ
+end-of bytes =
+    cond (eqb (length (before line-end bytes)) (length bytes)) None (Some (length (before line-end bytes)))
+
+-- the line up to its end
+abbrev pub line-to : LinePlace → List ℕ → Option ℕ → Result (Act × ℕ) LineFault
+line-to place bytes None = Err (record { place = place; what = Unended })
+line-to place bytes (Some n) = with-length (n + 1) (in-place place (act-on (take n bytes)))
+
 -- the first line of some bytes
 abbrev pub first-line : LinePlace → List ℕ → Result (Act × ℕ) LineFault
-first-line place bytes =
-    cond (eqb (length (before line-end bytes)) (length bytes)) (Err (record { place = place; what = Unended }))
-    (with-length (length (before line-end bytes) + 1) (in-place place (act-on (before line-end bytes))))
+first-line place bytes = line-to place bytes (end-of bytes)
 
 -- the acts of the lines that were read, and why reading ended before the trace did, if it did
 pub record Reading : Type 0 where

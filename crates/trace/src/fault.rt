@@ -72,18 +72,10 @@ impl LineFault {
             LineCause::FewFields => 2,
             LineCause::ManyFields => 3,
             LineCause::Field(FieldFault::NoKind) => 4,
-            LineCause::Field(
-                FieldFault::Number {
-                    fault: NumberFault::AboveLimit,
-                    ..
-                },
-            ) => 5,
-            LineCause::Field(
-                FieldFault::Number {
-                    fault: NumberFault::NotANumber,
-                    ..
-                },
-            ) => 6,
+            LineCause::Field(FieldFault::Number { fault, .. }) => match fault {
+                NumberFault::AboveLimit => 5,
+                NumberFault::NotANumber => 6,
+            },
             LineCause::Field(FieldFault::Empty { .. }) => 7,
             LineCause::Field(FieldFault::Filled { .. }) => 8,
         }

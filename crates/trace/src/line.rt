@@ -1,10 +1,11 @@
 ghost use mathlib.Core.Path.{_≡_};
-ghost use Prim.Native.Nat.{_≤_};
+ghost use Prim.Native.Nat.{ℕ, _≤_, _<_};
 ghost use lib.ListN.{length};
+ghost use Rattle.std.specs.declared.option.Option.the-variants.{Some};
 ghost use Rattle.trace.specs.Kinds.{kind-of};
 ghost use Rattle.trace.specs.Lines.{job-alone, all-three, all-but-job, none-filled, act-of, act-on, in-line};
 ghost use Rattle.trace.specs.Pieces.{before, behind, parted};
-ghost use Rattle.trace.specs.Traces.{placed, in-place, first-line};
+ghost use Rattle.trace.specs.Traces.{placed, in-place, end-of, first-line};
 ghost use Rattle.trace.specs.declared.fault.FieldFault.the-variants.{Number};
 ghost use Rattle.trace.specs.declared.fault.LineCause.the-variants.{Field};
 use crate::act::Act;
@@ -234,17 +235,28 @@ fn read_line(line: &[u8], place: LinePlace) -> Result<Act, LineFault>
     Ok(act)
 }
 
+// The place of the first line end, if there is one.
+fn line_end(bytes: &[u8]) -> Option<usize>
+    ensures value { λ r. ⌜ r ≡ end-of (now (bytes .entry)) ⌝ }
+    ensures within { λ r. ⌜ ((n : ℕ) → r ≡ Some n → n < length (now (bytes .entry))) ⌝ }
+{
+    let end = find(bytes, b'\n');
+    if end == bytes.len() {
+        return None;
+    }
+    Some(end)
+}
+
 // The act of the first line of the bytes, and its length with its line end.
 pub fn first_line(bytes: &[u8], place: LinePlace) -> Result<(Act, usize), LineFault>
     ensures { λ r. ⌜ r ≡ first-line place (now (bytes .entry)) ⌝ }
 {
-    let end = find(bytes, b'\n');
-    if end == bytes.len() {
+    let Some(end) = line_end(bytes) else {
         return Err(LineFault {
             place,
             what: LineCause::Unended,
         });
-    }
+    };
     let act = read_line(&bytes[0..end], place)?;
     Ok((act, end + 1))
 }

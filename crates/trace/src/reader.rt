@@ -1,5 +1,6 @@
 ghost use mathlib.Core.Path.{_≡_};
-ghost use lib.ListN.{length};
+ghost use Prim.Native.Nat.{_<_};
+ghost use lib.ListN.{length, set};
 ghost use Rattle.trace.specs.Traces.{reading-of, reading-of-input, answer, list-after, FirstBadLineDecides, ReadsWhatWasWritten, WritesBack};
 ghost use Rattle.trace.specs.declared.fault.ReadRefusal.the-variants.{Line};
 use crate::act::Step;
@@ -16,6 +17,14 @@ impl From<LineFault> for ReadRefusal as LineInTrace {
     }
 }
 
+// Puts a step into a place of the list.
+fn put_step(steps: &mut [Step], i: usize, step: Step)
+    requires { ⌜ i < length (now steps) ⌝ }
+    ensures { λ _. ⌜ now (steps .exit) ≡ set (now (steps .entry)) i step ⌝ }
+{
+    steps[i] = step;
+}
+
 // Reads every line of a trace into the lent list, and answers how many there are.
 //
 // The first line that is at fault, or for which the list has no place left, refuses the trace. The list
@@ -30,18 +39,12 @@ pub fn read_trace(bytes: &[u8], steps: &mut [Step]) -> Result<usize, ReadRefusal
     let mut count = 0;
     let mut start = 0;
     while start < bytes.len() {
-        let place = LinePlace {
-            line: count + 1,
-            start,
-        };
-        let (act, length) = first_line(&bytes[start..], place)?;
+        let line = count + 1;
+        let (act, length) = first_line(&bytes[start..], LinePlace { line, start })?;
         if count == steps.len() {
-            return Err(ReadRefusal::Full { line: count + 1 });
+            return Err(ReadRefusal::Full { line });
         }
-        steps[count] = Step {
-            line: count + 1,
-            act,
-        };
+        put_step(steps, count, Step { line, act });
         count += 1;
         start += length;
     }

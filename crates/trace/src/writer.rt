@@ -9,7 +9,7 @@ ghost use Rattle.trace.specs.Kinds.{letter};
 ghost use Rattle.trace.specs.declared.kind.Kind.{Kind as AnyKind};
 ghost use Rattle.trace.specs.Lines.{field-text, job-of, item-of, value-of, kind-of-act, line-of, Within, Sayable};
 ghost use Rattle.trace.specs.Traces.{LineReadsBack, TraceReadsBack, AllSayable, written};
-ghost use Rattle.trace.specs.Writing.{over, writing, writing-all, laid, item-checked};
+ghost use Rattle.trace.specs.Writing.{over, fitted, writing, writing-all, laid, item-checked};
 use crate::act::Act;
 use crate::fault::Column;
 use crate::fault::WriteRefusal;
@@ -200,17 +200,23 @@ fn put_line(out: &mut [u8], place: usize, act: &Act)
     put_field(out, value, value_of(act), b'\n');
 }
 
+// A line that is longer than the room does not fit.
+fn fit(size: usize, room: usize) -> Result<usize, WriteRefusal>
+    ensures { λ r. ⌜ r ≡ fitted room size ⌝ }
+{
+    if size > room {
+        return Err(WriteRefusal::DoesNotFit { length: size });
+    }
+    Ok(size)
+}
+
 // The length of the line of an act that can be written with this much room.
 fn measure(act: &Act, room: usize) -> Result<usize, WriteRefusal>
     ensures answered { λ r. ⌜ r ≡ writing (now (act .entry)) room ⌝ }
     ensures sayable { λ r. ⌜ ((n : ℕ) → r ≡ Ok n → Sayable (now (act .entry))) ⌝ }
 {
     check_item(item_of(act))?;
-    let length = line_len(act);
-    if length > room {
-        return Err(WriteRefusal::DoesNotFit { length });
-    }
-    Ok(length)
+    fit(line_len(act), room)
 }
 
 // Writes an act as a line, with its line end, at the front of the lent bytes, and answers its length.
@@ -230,6 +236,7 @@ pub fn write_act(act: &Act, out: &mut [u8]) -> Result<usize, WriteRefusal>
 fn measure_all(acts: &[Act], room: usize) -> Result<usize, WriteRefusal>
     ensures answered { λ r. ⌜ r ≡ writing-all (now (acts .entry)) room ⌝ }
     ensures sayable { λ r. ⌜ ((n : ℕ) → r ≡ Ok n → AllSayable (now (acts .entry))) ⌝ }
+    ensures within { λ r. ⌜ ((n : ℕ) → r ≡ Ok n → length (written (now (acts .entry))) ≤ room) ⌝ }
 {
     let mut total = 0;
     let mut i = 0;

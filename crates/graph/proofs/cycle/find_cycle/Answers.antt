@@ -10,7 +10,7 @@ returns-in-Some g c =
     let graph = c .args .graph .now in
     let f = c .in-Some .ensures tt in
     let s = part-cycle (g .G·Graph .size graph) (c .args .set) (g .G·Graph .leads graph) (c .loop-node .node) (listed (c .in-Some .cycle)) (f .0) (f .1) in
-    (s .0, s .1, f .2)
+    (s .0, s .1, f .2, f .3)
 
 pub loop-node-again : need.loop-node-again
 loop-node-again g c =

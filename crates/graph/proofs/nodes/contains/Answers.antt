@@ -1,10 +1,7 @@
 use mathlib.Core.Path.{sym, _∙_}
 use Rattle.std.proofs.shelf.Tests.{le-ltb}
-use Rattle.graph.proofs.Words.{bit-mask, bit-past}
+use Rattle.graph.proofs.Words.{bit-past}
 use Rattle.graph.proofs.nodes.contains.Needs as need
-
-pub returns-then-node-lt64 : need.returns-then-node-lt64
-returns-then-node-lt64 c = bit-mask (c .args .set) (c .args .node)
 
 pub returns-else-node-lt64 : need.returns-else-node-lt64
 returns-else-node-lt64 c =

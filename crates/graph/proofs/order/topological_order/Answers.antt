@@ -37,6 +37,7 @@ returns g c =
     let graph = c .args .graph .now in
     record {
       count = c .loop-node .inv .1;
+      places = c .loop-node .inv .0;
       order = ordered-orders (g .G·Graph .size graph) (g .G·Graph .leads graph) (c .args .keys .now) (c .args .set) (take (c .loop-node .count) (c .loop-node .nodes))
           (placed-all _ _ (c .args .keys .now) _ (take (c .loop-node .count) (c .loop-node .nodes)) _ (c .loop-node .inv .2) (c .in-rest .ensures tt));
     }

@@ -1,4 +1,4 @@
-use mathlib.Core.Path.{_≡_, sym, subst₂}
+use mathlib.Core.Path.{_≡_, sym, subst, subst₂}
 use mathlib.Core.List.{List}
 use Prim.Native.Nat.{ℕ, _+_}
 use lib.ListN.{length}
@@ -9,7 +9,7 @@ use Rattle.trace.proofs.Trips.{first-bad-line-decides, reads-what-was-written,
 use native.Mathlib.Omega.{arith}
 use Rattle.std.proofs.shelf.Results.{err-from-errBy}
 use Rattle.trace.specs.Traces.{place-of, answer, reading-of, list-after, FirstBadLineDecides, ReadsWhatWasWritten, WritesBack}
-use Rattle.trace.proofs.Readings.{part-line, line-within, sofar-none, sofar-more, sofar-bad, sofar-full, sofar-all}
+use Rattle.trace.proofs.Readings.{part-line, line-within, Sofar, sofar-more, sofar-bad, sofar-full, sofar-all}
 use Rattle.trace.proofs.reader.read_trace.Needs as need
 
 -- the laws of the outcome, said of what the code answers and leaves
@@ -54,7 +54,8 @@ loop-start-less c =
 pub loop-start-again : need.loop-start-again
 loop-start-again c =
     let e = part-line (place-of (c .loop-start .count + 1) (c .loop-start .start)) (c .args .bytes .now) (c .loop-start .start) _ (c .in-Continue-act .ensures tt) in
-    sofar-more (c .args .bytes .now) (c .args .steps .now) (c .loop-start .steps) (c .loop-start .count) (c .loop-start .start) _ _ (c .loop-start .inv) (omega arith) e
+    subst (λ l. Sofar (c .args .bytes .now) (c .args .steps .now) l (c .loop-start .count + 1) (c .loop-start .start + c .in-Continue-act .length)) (sym (c .put-step .ensures))
+    (sofar-more (c .args .bytes .now) (c .args .steps .now) (c .loop-start .steps) (c .loop-start .count) (c .loop-start .start) _ _ (c .loop-start .inv) (omega arith) e)
 
 pub returns : need.returns
 returns c =

@@ -1,13 +1,9 @@
 use mathlib.Core.Path.{refl, sym, _∙_}
-use native.Mathlib.Omega.{arith}
 use lib.ListN.{length}
 use Rattle.trace.specs.Traces.{written}
 use Rattle.trace.proofs.Batches.{writing-all-says, trace-reads-back, over-front}
 use Rattle.trace.proofs.Saying.{same-ok}
 use Rattle.trace.proofs.writer.write_trace.Needs as need
-
-pub put-lines-requires : need.put-lines-requires
-put-lines-requires c κs = omega (arith, writing-all-says (c .args .acts .now) (length (c .args .out .now)) (c .in-Continue-length .length) (sym (c .in-Continue-length .ensures tt .answered)))
 
 pub returns : need.returns
 returns c =

@@ -1,0 +1,5 @@
+pub mod Drawing
+pub mod Ledgers
+pub mod Marks
+pub mod Shows
+pub mod Steps

@@ -1,0 +1,4 @@
+pub mod Ledgers
+pub mod Refusals
+pub mod Turns
+pub mod Verdicts
