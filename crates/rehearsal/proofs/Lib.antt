@@ -1,0 +1,3 @@
+mod Texts
+mod Playing
+mod Telling
