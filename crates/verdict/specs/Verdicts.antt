@@ -60,22 +60,22 @@ abbrev pub Judges : Keep → List Act → List ℕ → Result Verdict JudgeRefus
 Judges keep H before (Ok v) after = Sound H (length H) × (length (opened H) ≤ length before) × Decides keep H before v after
 Judges keep H before (Err r) after = Refuses H (length before) r × (after ≡ before)
 
--- the numbers of the jobs at these places of a ledger
+-- the numbers of the jobs at these nodes of a ledger
 abbrev pub numbered : Ledger → List ℕ → List ℕ
-numbered l places = map (number-at l) places
+numbered l nodes = map (number-at l) nodes
 
--- the edges between the places of a ledger
-abbrev pub PlaceEdges : Ledger → Relation
-PlaceEdges l = Edges 64 (marked-rows 64 (l .into))
+-- the edges between the nodes of a ledger
+abbrev pub NodeEdges : Ledger → Relation
+NodeEdges l = Edges 64 (marked-rows 64 (l .into))
 
--- the ledger is that of some acts, and the list has a place for each of its jobs
+-- the ledger is that of some acts, and the list has a node for each of its jobs
 abbrev pub Ready : Ledger → ℕ → Type 0
 Ready l places = ((H : List Act) × Keeps H l) × (l .count ≤ places)
 
--- a cycle among the places of the jobs that count, or none
+-- a cycle among the nodes of the jobs that count, or none
 abbrev pub NodeCycle : Ledger → Option NodeList → Type 0
-NodeCycle l r = FindsCycle (Within (l .kept) (PlaceEdges l)) r
+NodeCycle l r = FindsCycle (Within (l .kept) (NodeEdges l)) r
 
--- the order of the places of the jobs that count, by number and edges
+-- the order of the nodes of the jobs that count, by number and edges
 abbrev pub NodeOrder : Ledger → NodeList → Type 0
-NodeOrder l r = Orders (PlaceEdges l) 64 (l .numbers) (l .kept) (listed r) × (r .count ≤ 64) × (length (r .nodes) ≡ 64)
+NodeOrder l r = Orders (NodeEdges l) 64 (l .numbers) (l .kept) (listed r) × (r .count ≤ 64) × (length (r .nodes) ≡ 64)
