@@ -29,7 +29,8 @@ use Rattle.history.proofs.Lists.{∈-dec, T-true, true-T}
 use Rattle.verdict.specs.declared.ledger.Ledger.{Ledger}
 use Rattle.verdict.specs.Turns.{opened}
 use Rattle.verdict.specs.Ledgers.{number-at, Keeps}
-use Rattle.verdict.specs.Verdicts.{Unled, SmallestFirst, Decides, numbered, NodeEdges, Ready, NodeCycle, NodeOrder}
+use Rattle.verdict.specs.Verdicts.{Unled, SmallestFirst, Decides}
+use Rattle.verdict.specs.Shown.{numbered, NodeEdges, Ready, NodeCycle, NodeOrder}
 use Rattle.verdict.specs.declared.judge.Verdict.the-variants.{Yes, No}
 use Rattle.verdict.proofs.Ledgers.{apart, node-of}
 

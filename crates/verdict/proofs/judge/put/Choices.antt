@@ -1,6 +1,6 @@
 use mathlib.Core.Path.{_≡_}
 use lib.ListN.{take, drop}
-use Rattle.verdict.specs.Verdicts.{numbered}
+use Rattle.verdict.specs.Shown.{numbered}
 use Rattle.verdict.proofs.judge.put.Given as given
 
 abbrev pub Inv-loop-at : given.InvT-loop-at
