@@ -4,6 +4,8 @@
 // graph    what a graph is, and graphs as rows of marks
 // list     lists of nodes
 // path     path search
+// order    the order of the nodes of a set, by keys and edges
+// cycle    cycles of a part of a graph
 pub mod cycle;
 pub mod graph;
 pub mod list;

@@ -68,8 +68,8 @@ clash-met : (s : List Access) (a : Access) (i : ℕ) → (i ≡ a .job → ⊥) 
 clash-met s a i n (inl q) = did-met-write a s i n (used-did true (a .item) i s q)
 clash-met s a i n (inr q) = did-met-read a s i n (q .0) (used-did false (a .item) i s (q .1))
 
-module _ (H : List Act) (act : Act) (l : Ledger) (k : Keeps H l) (place : ℕ) (b : place < l .count)
-    (a : Access) (e : number-at l place ≡ a .job)
+module _ (H : List Act) (act : Act) (l : Ledger) (k : Keeps H l) (node : ℕ) (b : node < l .count)
+    (a : Access) (e : number-at l node ≡ a .job)
     (no-open : opened (act ∷ []) ≡ []) (is : accesses (act ∷ []) ≡ a ∷ []) (still : (i : ℕ) (f : Fate) → after act i f ≡ f)
     (into readers writers : List ℕ) (from : ℕ) where
   abbrev drawn : Ledger
@@ -85,38 +85,38 @@ module _ (H : List Act) (act : Act) (l : Ledger) (k : Keeps H l) (place : ℕ) (
 
   -- the rows that an access leaves
   abbrev Rows : Type 0
-  Rows = (length into ≡ 64) × ((q : ℕ) → (q ≡ place → ⊥) → getD into q 0 ≡ getD (l .into) q 0)
-      × ((p : ℕ) → has (getD into place 0) p ≡ (marked l p place || (has from p && not (eqb p place))))
+  Rows = (length into ≡ 64) × ((q : ℕ) → (q ≡ node → ⊥) → getD into q 0 ≡ getD (l .into) q 0)
+      × ((p : ℕ) → has (getD into node 0) p ≡ (marked l p node || (has from p && not (eqb p node))))
 
   -- the row of its job
   row-here : Rows → Marks l (Clashes (a .writes) (a .item) (accesses H)) from
-      → Marks l (λ i. Leads (accesses H ++ a ∷ []) i (number-at l place)) (getD into place 0)
+      → Marks l (λ i. Leads (accesses H ++ a ∷ []) i (number-at l node)) (getD into node 0)
   row-here rows m = record {
     only = λ p t. ⊎-elim
-        (λ o. let h = k .edges place b .only p o in (h .0, leads-old a (accesses H) (number-at l p) (number-at l place) (h .1)))
+        (λ o. let h = k .edges node b .only p o in (h .0, leads-old a (accesses H) (number-at l p) (number-at l node) (h .1)))
         (λ o.
-        let c = and-parts (has from p) (not (eqb p place)) o in
+        let c = and-parts (has from p) (not (eqb p node)) o in
         let h = m .only p (c .0) in
-        let apart-here : p ≡ place → ⊥ = eqb-false p place (not-true (eqb p place) (c .1)) in
-        let other : number-at l p ≡ a .job → ⊥ = λ f. apart-here (apart H l k p place (h .0) b (f ∙ sym e)) in
-        (h .0, leads-new a (accesses H) (number-at l p) (number-at l place) (sym e) (clash-met (accesses H) a (number-at l p) other (h .1))))
-        (or-cases (marked l p place) (has from p && not (eqb p place)) (sym (rows .2 p) ∙ t));
+        let apart-here : p ≡ node → ⊥ = eqb-false p node (not-true (eqb p node) (c .1)) in
+        let other : number-at l p ≡ a .job → ⊥ = λ f. apart-here (apart H l k p node (h .0) b (f ∙ sym e)) in
+        (h .0, leads-new a (accesses H) (number-at l p) (number-at l node) (sym e) (clash-met (accesses H) a (number-at l p) other (h .1))))
+        (or-cases (marked l p node) (has from p && not (eqb p node)) (sym (rows .2 p) ∙ t));
     all = λ p c h. rows .2 p ∙ ⊎-elim
-        (λ o. or-left (marked l p place) (has from p && not (eqb p place)) (k .edges place b .all p c o))
+        (λ o. or-left (marked l p node) (has from p && not (eqb p node)) (k .edges node b .all p c o))
         (λ o.
         let d = met-clash (accesses H) a (number-at l p) (o .1) in
-        or-right (marked l p place) (has from p && not (eqb p place))
-        (and-from (has from p) (not (eqb p place)) (m .all p c (d .1)) (ap not (ne-eqb p place (λ f. d .0 (ap (number-at l) f ∙ e))))))
-        (leads-more a (accesses H) (number-at l p) (number-at l place) h);
+        or-right (marked l p node) (has from p && not (eqb p node))
+        (and-from (has from p) (not (eqb p node)) (m .all p c (d .1)) (ap not (ne-eqb p node (λ f. d .0 (ap (number-at l) f ∙ e))))))
+        (leads-more a (accesses H) (number-at l p) (number-at l node) h);
   }
 
   -- the row of another job
-  row-other : Rows → (q : ℕ) → q < l .count → (q ≡ place → ⊥)
+  row-other : Rows → (q : ℕ) → q < l .count → (q ≡ node → ⊥)
       → Marks l (λ i. Leads (accesses H ++ a ∷ []) i (number-at l q)) (getD into q 0)
   row-other rows q c d =
       subst (Marks l (λ i. Leads (accesses H ++ a ∷ []) i (number-at l q))) (sym (rows .1 q d))
       (marks-iff l _ _ (getD (l .into) q 0) (λ i. leads-old a (accesses H) i (number-at l q))
-      (λ i h. ⊎-elim (λ o. o) (λ o. absurd (d (apart H l k q place c b (sym (o .0) ∙ sym e)))) (leads-more a (accesses H) i (number-at l q) h))
+      (λ i h. ⊎-elim (λ o. o) (λ o. absurd (d (apart H l k q node c b (sym (o .0) ∙ sym e)))) (leads-more a (accesses H) i (number-at l q) h))
       (k .edges q c))
 
   pub keeps-access : Rows → Marks l (Clashes (a .writes) (a .item) (accesses H)) from
@@ -128,7 +128,7 @@ module _ (H : List Act) (act : Act) (l : Ledger) (k : Keeps H l) (place : ℕ) (
       let jobs′ : opened H′ ≡ opened H = quiet-jobs H act no-open in
       let accesses′ : accesses H′ ≡ accesses H ++ a ∷ [] = accesses-join H (act ∷ []) ∙ ap (λ t. accesses H ++ t) is in
       let same : (i : ℕ) → fate i H′ ≡ fate i H = λ i. fate-more i H act ∙ still i (fate i H) in
-      let here : a .job ∈ opened H = subst (λ n. n ∈ opened H) e (job-at H l k place b) in
+      let here : a .job ∈ opened H = subst (λ n. n ∈ opened H) e (job-at H l k node b) in
       record {
         few = k .few;
         places = (k .places .0, rows .0, lengths .0, lengths .1);
@@ -142,7 +142,7 @@ module _ (H : List Act) (act : Act) (l : Ledger) (k : Keeps H l) (place : ℕ) (
         kept = marks-same l drawn _ (l .kept) refl refl
             (marks-iff l _ _ (l .kept) (λ i f. subst (λ g. T (not-aborted g)) (sym (same i)) f) (λ i f. subst (λ g. T (not-aborted g)) (same i) f) (k .kept));
         edges = λ q c. subst (λ t. Marks drawn (λ i. Leads t i (number-at l q)) (getD into q 0)) (sym accesses′)
-            (marks-same l drawn _ (getD into q 0) refl refl (elim (cases-eq q place) [
+            (marks-same l drawn _ (getD into q 0) refl refl (elim (cases-eq q node) [
               | inl f ↦ subst (λ n. Marks l (λ i. Leads (accesses H ++ a ∷ []) i (number-at l n)) (getD into n 0)) (sym f) (row-here rows m)
               | inr d ↦ row-other rows q c d
             ]));
@@ -155,12 +155,12 @@ module _ (H : List Act) (act : Act) (l : Ledger) (k : Keeps H l) (place : ℕ) (
       }
 
 -- the rows that a call draws
-draws-rows : (H : List Act) (l m : Ledger) (place from : ℕ) → Keeps H l → Draws l place from m
-    → (length (m .into) ≡ 64) × ((q : ℕ) → (q ≡ place → ⊥) → getD (m .into) q 0 ≡ getD (l .into) q 0)
-    × ((p : ℕ) → has (getD (m .into) place 0) p ≡ (marked l p place || (has from p && not (eqb p place))))
-draws-rows H l m place from k d = (
-  ap length (d .into) ∙ length-set (l .into) place (getD (m .into) place 0) ∙ k .places .1,
-  (λ q n. ap (λ rows. getD rows q 0) (d .into) ∙ getD-set-other (l .into) place q (getD (m .into) place 0) 0 n),
+draws-rows : (H : List Act) (l m : Ledger) (node from : ℕ) → Keeps H l → Draws l node from m
+    → (length (m .into) ≡ 64) × ((q : ℕ) → (q ≡ node → ⊥) → getD (m .into) q 0 ≡ getD (l .into) q 0)
+    × ((p : ℕ) → has (getD (m .into) node 0) p ≡ (marked l p node || (has from p && not (eqb p node))))
+draws-rows H l m node from k d = (
+  ap length (d .into) ∙ length-set (l .into) node (getD (m .into) node 0) ∙ k .places .1,
+  (λ q n. ap (λ rows. getD rows q 0) (d .into) ∙ getD-set-other (l .into) node q (getD (m .into) node 0) 0 n),
   d .here,
 )
 
@@ -184,24 +184,24 @@ module _ (l : Ledger) (s : List Access) (a : Access) (readers writers : List ℕ
   ]
 
 -- a word of a table replaced
-pub table-set : (old new : List ℕ) (x place : ℕ) → new ≡ set old x (getD new x 0)
-    → ((p : ℕ) → has (getD new x 0) p ≡ (has (getD old x 0) p || eqb p place)) → Table old new x place
-table-set old new x place e h = record {
+pub table-set : (old new : List ℕ) (x node : ℕ) → new ≡ set old x (getD new x 0)
+    → ((p : ℕ) → has (getD new x 0) p ≡ (has (getD old x 0) p || eqb p node)) → Table old new x node
+table-set old new x node e h = record {
   length = ap length e ∙ length-set old x (getD new x 0);
   other = λ y n. ap (λ t. getD t y 0) e ∙ getD-set-other old x y (getD new x 0) 0 n;
   here = λ _. h;
 }
 
 -- a table that stays, where the item is not below 64
-pub table-same : (old : List ℕ) (x place : ℕ) → 64 ≤ x → Table old old x place
-table-same old x place l = record { length = refl; other = λ y _. refl; here = λ c. absurd (omega arith) }
+pub table-same : (old : List ℕ) (x node : ℕ) → 64 ≤ x → Table old old x node
+table-same old x node l = record { length = refl; other = λ y _. refl; here = λ c. absurd (omega arith) }
 
-module _ (H : List Act) (l m : Ledger) (k : Keeps H l) (place j x v from : ℕ) (b : place < l .count) (e : number-at l place ≡ j) where
-  pub keeps-read : Marks l (Clashes false x (accesses H)) from → (n : Ledger) → Draws l place from n → NotesRead n x place m
+module _ (H : List Act) (l m : Ledger) (k : Keeps H l) (node j x v from : ℕ) (b : node < l .count) (e : number-at l node ≡ j) where
+  pub keeps-read : Marks l (Clashes false x (accesses H)) from → (n : Ledger) → Draws l node from n → NotesRead n x node m
       → Keeps (H ++ Read j x v ∷ []) m
   keeps-read clash n d r =
       let a : Access = record { job = j; item = x; writes = false; value = v } in
-      let rows = draws-rows H l n place from k d in
+      let rows = draws-rows H l n node from k d in
       let readers-other : (y : ℕ) → (y ≡ x → ⊥) → getD (m .readers) y 0 ≡ getD (l .readers) y 0 =
       λ y o. r .readers .other y o ∙ ap (λ t. getD t y 0) (d .readers) in
       let writers-same : m .writers ≡ l .writers = r .writers ∙ d .writers in
@@ -214,18 +214,18 @@ module _ (H : List Act) (l m : Ledger) (k : Keeps H l) (place j x v from : ℕ) 
         readers = m .readers;
         writers = m .writers;
       }))
-      (keeps-access H (Read j x v) l k place b a e refl refl (λ i f. refl) (n .into) (m .readers) (m .writers) from rows clash
+      (keeps-access H (Read j x v) l k node b a e refl refl (λ i f. refl) (n .into) (m .readers) (m .writers) from rows clash
       (r .readers .length ∙ ap length (d .readers) ∙ k .places .2, ap length writers-same ∙ k .places .3)
       (users-after l (accesses H) a (m .readers) (m .writers) (k .items) readers-other (λ y _. ap (λ t. getD t y 0) writers-same)
-      (λ c. users-read l x (users-at l x) (record { readers = getD (m .readers) x 0; writers = getD (m .writers) x 0 }) place j x v (apart H l k) b e refl
-      (λ p. r .readers .here c p ∙ ap (λ t. has (getD t x 0) p || eqb p place) (d .readers))
+      (λ c. users-read l x (users-at l x) (record { readers = getD (m .readers) x 0; writers = getD (m .writers) x 0 }) node j x v (apart H l k) b e refl
+      (λ p. r .readers .here c p ∙ ap (λ t. has (getD t x 0) p || eqb p node) (d .readers))
       (ap (λ t. getD t x 0) writers-same) (accesses H) (k .items x c))))
 
-  pub keeps-write : Marks l (Clashes true x (accesses H)) from → (n : Ledger) → Draws l place from n → NotesWrite n x place m
+  pub keeps-write : Marks l (Clashes true x (accesses H)) from → (n : Ledger) → Draws l node from n → NotesWrite n x node m
       → Keeps (H ++ Write j x v ∷ []) m
   keeps-write clash n d r =
       let a : Access = record { job = j; item = x; writes = true; value = v } in
-      let rows = draws-rows H l n place from k d in
+      let rows = draws-rows H l n node from k d in
       let writers-other : (y : ℕ) → (y ≡ x → ⊥) → getD (m .writers) y 0 ≡ getD (l .writers) y 0 =
       λ y o. r .writers .other y o ∙ ap (λ t. getD t y 0) (d .writers) in
       let readers-same : m .readers ≡ l .readers = r .readers ∙ d .readers in
@@ -238,9 +238,9 @@ module _ (H : List Act) (l m : Ledger) (k : Keeps H l) (place j x v from : ℕ) 
         readers = m .readers;
         writers = m .writers;
       }))
-      (keeps-access H (Write j x v) l k place b a e refl refl (λ i f. refl) (n .into) (m .readers) (m .writers) from rows clash
+      (keeps-access H (Write j x v) l k node b a e refl refl (λ i f. refl) (n .into) (m .readers) (m .writers) from rows clash
       (ap length readers-same ∙ k .places .2, r .writers .length ∙ ap length (d .writers) ∙ k .places .3)
       (users-after l (accesses H) a (m .readers) (m .writers) (k .items) (λ y _. ap (λ t. getD t y 0) readers-same) writers-other
-      (λ c. users-write l x (users-at l x) (record { readers = getD (m .readers) x 0; writers = getD (m .writers) x 0 }) place j x v (apart H l k) b e refl
-      (λ p. r .writers .here c p ∙ ap (λ t. has (getD t x 0) p || eqb p place) (d .writers))
+      (λ c. users-write l x (users-at l x) (record { readers = getD (m .readers) x 0; writers = getD (m .writers) x 0 }) node j x v (apart H l k) b e refl
+      (λ p. r .writers .here c p ∙ ap (λ t. has (getD t x 0) p || eqb p node) (d .writers))
       (ap (λ t. getD t x 0) readers-same) (accesses H) (k .items x c))))

@@ -44,8 +44,8 @@ module _ (H : List Act) (l : Ledger) (k : Keeps H l) where
   job-at p b = subst (λ js. number-at l p ∈ js) (k .jobs)
       (in-front (l .numbers) (l .count) p b (omega (arith, k .few, k .places)))
 
-  pub place-of : (j : ℕ) → j ∈ opened H → (p : ℕ) × (p < l .count) × (number-at l p ≡ j)
-  place-of j i = place-in-front (l .numbers) (l .count) j (subst (λ js. j ∈ js) (sym (k .jobs)) i)
+  pub node-of : (j : ℕ) → j ∈ opened H → (p : ℕ) × (p < l .count) × (number-at l p ≡ j)
+  node-of j i = place-in-front (l .numbers) (l .count) j (subst (λ js. j ∈ js) (sym (k .jobs)) i)
 
   pub counted : l .count ≡ length (opened H)
   counted = sym (length-take-le (l .count) (l .numbers) (omega (arith, k .few, k .places))) ∙ ap length (k .jobs)
@@ -136,8 +136,8 @@ aborted-opened e = let z : _≡_ {A = ℕ} 0 1 = cc in omega arith
 aborted-ended : Fate.aborted ≡ Fate.running → ⊥
 aborted-ended e = let z : _≡_ {A = ℕ} 0 1 = cc in omega arith
 
--- an act that ends the job at a place
-module _ (H : List Act) (act : Act) (l : Ledger) (k : Keeps H l) (place j : ℕ) (b : place < l .count) (e : number-at l place ≡ j)
+-- an act that ends the job at a node
+module _ (H : List Act) (act : Act) (l : Ledger) (k : Keeps H l) (node j : ℕ) (b : node < l .count) (e : number-at l node ≡ j)
     (runs : fate j H ≡ Fate.running) (o : opened (act ∷ []) ≡ []) (a : accesses (act ∷ []) ≡ [])
     (g : Fate) (ends : (i : ℕ) (f : Fate) → after act i f ≡ cond (eqb j i) g f) (g-opened : g ≡ Fate.unopened → ⊥) (g-ended : g ≡ Fate.running → ⊥) where
   fate-ended : fate j (H ++ act ∷ []) ≡ g
@@ -147,26 +147,26 @@ module _ (H : List Act) (act : Act) (l : Ledger) (k : Keeps H l) (place j : ℕ)
   fate-other i d = fate-more i H act ∙ ends i (fate i H) ∙ ap (λ c. cond c g (fate i H)) (ne-eqb j i (λ p. d (sym p)))
 
   here-opened : j ∈ opened H
-  here-opened = subst (λ n. n ∈ opened H) e (job-at H l k place b)
+  here-opened = subst (λ n. n ∈ opened H) e (job-at H l k node b)
 
-  -- the job at another place is another one
-  elsewhere : (p : ℕ) → p < l .count → (p ≡ place → ⊥) → number-at l p ≡ j → ⊥
-  elsewhere p c d f = d (apart H l k p place c b (f ∙ sym e))
+  -- the job at another node is another one
+  elsewhere : (p : ℕ) → p < l .count → (p ≡ node → ⊥) → number-at l p ≡ j → ⊥
+  elsewhere p c d f = d (apart H l k p node c b (f ∙ sym e))
 
-  fate-elsewhere : (p : ℕ) → p < l .count → (p ≡ place → ⊥) → fate (number-at l p) (H ++ act ∷ []) ≡ fate (number-at l p) H
+  fate-elsewhere : (p : ℕ) → p < l .count → (p ≡ node → ⊥) → fate (number-at l p) (H ++ act ∷ []) ≡ fate (number-at l p) H
   fate-elsewhere p c d = fate-other (number-at l p) (elsewhere p c d)
 
-  fate-at : (p : ℕ) → p ≡ place → fate (number-at l p) (H ++ act ∷ []) ≡ g
+  fate-at : (p : ℕ) → p ≡ node → fate (number-at l p) (H ++ act ∷ []) ≡ g
   fate-at p f = ap (λ q. fate (number-at l q) (H ++ act ∷ [])) f ∙ ap (λ i. fate i (H ++ act ∷ [])) e ∙ fate-ended
 
-  ended-running : (running : ℕ) → ((p : ℕ) → has running p ≡ (has (l .running) p && not (eqb p place)))
+  ended-running : (running : ℕ) → ((p : ℕ) → has running p ≡ (has (l .running) p && not (eqb p node)))
       → Marks l (λ i. fate i (H ++ act ∷ []) ≡ Fate.running) running
   ended-running running same =
-      marks-drop l _ _ (l .running) running place (k .running) same
+      marks-drop l _ _ (l .running) running node (k .running) same
       (λ p c d q. fate-elsewhere p c d ∙ q)
-      (λ p c q. let d : p ≡ place → ⊥ = λ f. g-ended (sym (fate-at p f) ∙ q) in (sym (fate-elsewhere p c d) ∙ q, d))
+      (λ p c q. let d : p ≡ node → ⊥ = λ f. g-ended (sym (fate-at p f) ∙ q) in (sym (fate-elsewhere p c d) ∙ q, d))
 
-  keeps-ended : (running kept : ℕ) → ((p : ℕ) → has running p ≡ (has (l .running) p && not (eqb p place)))
+  keeps-ended : (running kept : ℕ) → ((p : ℕ) → has running p ≡ (has (l .running) p && not (eqb p node)))
       → Marks l (Kept not-aborted (H ++ act ∷ [])) kept → Keeps (H ++ act ∷ []) (remark l running kept)
   keeps-ended running kept same keep =
       keeps-quiet H (H ++ act ∷ []) l k (quiet-jobs H act o) (quiet-accesses H act a) running kept
@@ -180,13 +180,13 @@ module _ (H : List Act) (act : Act) (l : Ledger) (k : Keeps H l) (place j : ℕ)
 Counts : Fate → Type 0
 Counts f = T (not-aborted f)
 
-pub keeps-commit : (H : List Act) (l m : Ledger) (place j : ℕ) → Keeps H l → place < l .count → number-at l place ≡ j
-    → fate j H ≡ Fate.running → Ends l place m → Keeps (H ++ Commit j ∷ []) m
+pub keeps-commit : (H : List Act) (l m : Ledger) (node j : ℕ) → Keeps H l → node < l .count → number-at l node ≡ j
+    → fate j H ≡ Fate.running → Ends l node m → Keeps (H ++ Commit j ∷ []) m
 unfolding Counts
-keeps-commit H l m place j k b e runs d =
+keeps-commit H l m node j k b e runs d =
     let H′ = H ++ Commit j ∷ [] in
-    let done = fate-ended H (Commit j) l k place j b e runs refl refl Fate.committed (λ i f. refl) committed-opened committed-ended in
-    let other = fate-other H (Commit j) l k place j b e runs refl refl Fate.committed (λ i f. refl) committed-opened committed-ended in
+    let done = fate-ended H (Commit j) l k node j b e runs refl refl Fate.committed (λ i f. refl) committed-opened committed-ended in
+    let other = fate-other H (Commit j) l k node j b e runs refl refl Fate.committed (λ i f. refl) committed-opened committed-ended in
     let keep : Marks l (Kept not-aborted H′) (l .kept) = marks-iff l _ _ (l .kept)
     (λ i c. elim (cases-eq i j) [ inl p ↦ subst (λ x. Kept not-aborted H′ x) (sym p) (subst Counts (sym done) tt) | inr o ↦ subst Counts (sym (other i o)) c ])
     (λ i c. elim (cases-eq i j) [ inl p ↦ subst (λ x. Kept not-aborted H x) (sym p) (subst Counts (sym runs) tt) | inr o ↦ subst Counts (other i o) c ])
@@ -200,18 +200,18 @@ keeps-commit H l m place j k b e runs d =
       readers = d .readers i;
       writers = d .writers i;
     }))
-    (keeps-ended H (Commit j) l k place j b e runs refl refl Fate.committed (λ i f. refl) committed-opened committed-ended (m .running) (l .kept) (d .running) keep)
+    (keeps-ended H (Commit j) l k node j b e runs refl refl Fate.committed (λ i f. refl) committed-opened committed-ended (m .running) (l .kept) (d .running) keep)
 
-pub keeps-abort : (H : List Act) (l m : Ledger) (place j : ℕ) → Keeps H l → place < l .count → number-at l place ≡ j
-    → fate j H ≡ Fate.running → Drops l place m → Keeps (H ++ Abort j ∷ []) m
+pub keeps-abort : (H : List Act) (l m : Ledger) (node j : ℕ) → Keeps H l → node < l .count → number-at l node ≡ j
+    → fate j H ≡ Fate.running → Drops l node m → Keeps (H ++ Abort j ∷ []) m
 unfolding Counts
-keeps-abort H l m place j k b e runs d =
+keeps-abort H l m node j k b e runs d =
     let H′ = H ++ Abort j ∷ [] in
-    let at = fate-at H (Abort j) l k place j b e runs refl refl Fate.aborted (λ i f. refl) aborted-opened aborted-ended in
-    let other = fate-elsewhere H (Abort j) l k place j b e runs refl refl Fate.aborted (λ i f. refl) aborted-opened aborted-ended in
-    let keep : Marks l (Kept not-aborted H′) (m .kept) = marks-drop l _ _ (l .kept) (m .kept) place (k .kept) (d .kept)
+    let at = fate-at H (Abort j) l k node j b e runs refl refl Fate.aborted (λ i f. refl) aborted-opened aborted-ended in
+    let other = fate-elsewhere H (Abort j) l k node j b e runs refl refl Fate.aborted (λ i f. refl) aborted-opened aborted-ended in
+    let keep : Marks l (Kept not-aborted H′) (m .kept) = marks-drop l _ _ (l .kept) (m .kept) node (k .kept) (d .kept)
     (λ p c o q. subst Counts (sym (other p c o)) q)
-    (λ p c q. let o : p ≡ place → ⊥ = λ f. subst Counts (at p f) q in (subst Counts (other p c o) q, o)) in
+    (λ p c q. let o : p ≡ node → ⊥ = λ f. subst Counts (at p f) q in (subst Counts (other p c o) q, o)) in
     subst (Keeps H′) (sym (λ i. record {
       numbers = d .numbers i;
       count = d .count i;
@@ -221,7 +221,7 @@ keeps-abort H l m place j k b e runs d =
       readers = d .readers i;
       writers = d .writers i;
     }))
-    (keeps-ended H (Abort j) l k place j b e runs refl refl Fate.aborted (λ i f. refl) aborted-opened aborted-ended (m .running) (m .kept) (d .running) keep)
+    (keeps-ended H (Abort j) l k node j b e runs refl refl Fate.aborted (λ i f. refl) aborted-opened aborted-ended (m .running) (m .kept) (d .running) keep)
 
 -- a job that is part of an edge used some item
 occurs-used : (i : ℕ) (s : List Access) → Occurs i s → (w : Bool) × (x : ℕ) × Used w x i s
@@ -232,7 +232,7 @@ occurs-used i (a ∷ s) (inr h) = let u = occurs-used i s h in (u .0, u .1, inr 
 running-opened : Fate.running ≡ Fate.unopened → ⊥
 running-opened e = let z : _≡_ {A = ℕ} 0 1 = cc in omega arith
 
--- a job is opened at the next place
+-- a job is opened at the next node
 module _ (H : List Act) (l : Ledger) (k : Keeps H l) (j : ℕ) (new : fate j H ≡ Fate.unopened) (room : l .count < 64) where
   not-yet : j ∈ opened H → ⊥
   not-yet i = k .opened-once j i new
@@ -365,7 +365,7 @@ module _ (H : List Act) (l : Ledger) (k : Keeps H l) (j : ℕ) where
   runs-there p f = subst (λ i. fate i H ≡ Fate.running) (f .1) (k .running .only p (f .2) .1)
 
   none-unopened : ((p : ℕ) → p < l .count → number-at l p ≡ j → ⊥) → fate j H ≡ Fate.unopened
-  none-unopened none = k .unopened j (λ i. let p = place-of H l k j i in none (p .0) (p .1) (p .2))
+  none-unopened none = k .unopened j (λ i. let p = node-of H l k j i in none (p .0) (p .1) (p .2))
 
   pub runs-not : FindsOpen l j None → fate j H ≡ Fate.running → ⊥
   runs-not (inl none) r = running-opened (sym r ∙ none-unopened none)

@@ -23,26 +23,26 @@ use Rattle.verdict.specs.declared.ledger.Ledger.{Ledger}
 use Rattle.verdict.specs.declared.ledger.Users.{Users}
 use Rattle.verdict.specs.Ledgers.{number-at, Marks, Used, UsersOf}
 
--- no two places have one number
+-- no two nodes have one number
 abbrev pub Apart : Ledger → Type 0
 Apart l = (p q : ℕ) → p < l .count → q < l .count → number-at l p ≡ number-at l q → p ≡ q
 
 pub distinct-apart : (l : Ledger) → l .count ≤ 64 → length (l .numbers) ≡ 64 → Distinct (take (l .count) (l .numbers)) → Apart l
 distinct-apart l few len d p q b c e = one-place (l .numbers) (l .count) p q d b c (omega arith) e
 
--- the job at one more place is marked
-pub marks-hit : (l : Ledger) (P Q : ℕ → Type 0) (set set′ place : ℕ) → Apart l → place < l .count → Marks l P set
-    → ((p : ℕ) → has set′ p ≡ (has set p || eqb p place))
-    → ((i : ℕ) → P i → Q i) → Q (number-at l place) → ((i : ℕ) → Q i → P i ⊎ (i ≡ number-at l place))
+-- the job at one more node is marked
+pub marks-hit : (l : Ledger) (P Q : ℕ → Type 0) (set set′ node : ℕ) → Apart l → node < l .count → Marks l P set
+    → ((p : ℕ) → has set′ p ≡ (has set p || eqb p node))
+    → ((i : ℕ) → P i → Q i) → Q (number-at l node) → ((i : ℕ) → Q i → P i ⊎ (i ≡ number-at l node))
     → Marks l Q set′
-marks-hit l P Q set set′ place apart b m same old new more = record {
+marks-hit l P Q set set′ node apart b m same old new more = record {
   only = λ p t. ⊎-elim
       (λ o. let h = m .only p o in (h .0, old (number-at l p) (h .1)))
-      (λ o. let e = eqb-true p place o in (subst (λ q. q < l .count) (sym e) b, subst (λ q. Q (number-at l q)) (sym e) new))
-      (or-cases (has set p) (eqb p place) (sym (same p) ∙ t));
+      (λ o. let e = eqb-true p node o in (subst (λ q. q < l .count) (sym e) b, subst (λ q. Q (number-at l q)) (sym e) new))
+      (or-cases (has set p) (eqb p node) (sym (same p) ∙ t));
   all = λ p c q. same p ∙ ⊎-elim
-      (λ o. or-left (has set p) (eqb p place) (m .all p c o))
-      (λ e. or-right (has set p) (eqb p place) (eq-eqb p place (apart p place c b e)))
+      (λ o. or-left (has set p) (eqb p node) (m .all p c o))
+      (λ e. or-right (has set p) (eqb p node) (eq-eqb p node (apart p node c b e)))
       (more (number-at l p) q);
 }
 
@@ -55,20 +55,20 @@ marks-miss l P Q set m old more = record {
   all = λ p c q. m .all p c (more p c q);
 }
 
--- the job at a place is marked no more
-pub marks-drop : (l : Ledger) (P Q : ℕ → Type 0) (set set′ place : ℕ) → Marks l P set
-    → ((p : ℕ) → has set′ p ≡ (has set p && not (eqb p place)))
-    → ((p : ℕ) → p < l .count → (p ≡ place → ⊥) → P (number-at l p) → Q (number-at l p))
-    → ((p : ℕ) → p < l .count → Q (number-at l p) → P (number-at l p) × (p ≡ place → ⊥))
+-- the job at a node is marked no more
+pub marks-drop : (l : Ledger) (P Q : ℕ → Type 0) (set set′ node : ℕ) → Marks l P set
+    → ((p : ℕ) → has set′ p ≡ (has set p && not (eqb p node)))
+    → ((p : ℕ) → p < l .count → (p ≡ node → ⊥) → P (number-at l p) → Q (number-at l p))
+    → ((p : ℕ) → p < l .count → Q (number-at l p) → P (number-at l p) × (p ≡ node → ⊥))
     → Marks l Q set′
-marks-drop l P Q set set′ place m same old more = record {
+marks-drop l P Q set set′ node m same old more = record {
   only = λ p t.
-      let b = and-parts (has set p) (not (eqb p place)) (sym (same p) ∙ t) in
+      let b = and-parts (has set p) (not (eqb p node)) (sym (same p) ∙ t) in
       let h = m .only p (b .0) in
-      (h .0, old p (h .0) (eqb-false p place (not-true (eqb p place) (b .1))) (h .1));
+      (h .0, old p (h .0) (eqb-false p node (not-true (eqb p node) (b .1))) (h .1));
   all = λ p c q.
       let h = more p c q in
-      same p ∙ and-from (has set p) (not (eqb p place)) (m .all p c (h .0)) (ap not (ne-eqb p place (h .1)));
+      same p ∙ and-from (has set p) (not (eqb p node)) (m .all p c (h .0)) (ap not (ne-eqb p node (h .1)));
 }
 
 -- one access more
@@ -90,15 +90,15 @@ module _ (a : Access) where
   used-new w x i (b ∷ s) e f g = inr (used-new w x i s e f g)
 
   -- the access uses the item so, and its job is marked
-  pub used-hit : (l : Ledger) (w : Bool) (x : ℕ) (s : List Access) (set set′ place : ℕ) → Apart l → place < l .count
-      → number-at l place ≡ a .job → a .item ≡ x → a .writes ≡ w → Marks l (λ i. Used w x i s) set
-      → ((p : ℕ) → has set′ p ≡ (has set p || eqb p place)) → Marks l (λ i. Used w x i (s ++ a ∷ [])) set′
-  used-hit l w x s set set′ place apart b e f g m same =
-      marks-hit l (λ i. Used w x i s) (λ i. Used w x i (s ++ a ∷ [])) set set′ place apart b m same
-      (λ i. used-old w x i s) (used-new w x (number-at l place) s (sym e) f g)
+  pub used-hit : (l : Ledger) (w : Bool) (x : ℕ) (s : List Access) (set set′ node : ℕ) → Apart l → node < l .count
+      → number-at l node ≡ a .job → a .item ≡ x → a .writes ≡ w → Marks l (λ i. Used w x i s) set
+      → ((p : ℕ) → has set′ p ≡ (has set p || eqb p node)) → Marks l (λ i. Used w x i (s ++ a ∷ [])) set′
+  used-hit l w x s set set′ node apart b e f g m same =
+      marks-hit l (λ i. Used w x i s) (λ i. Used w x i (s ++ a ∷ [])) set set′ node apart b m same
+      (λ i. used-old w x i s) (used-new w x (number-at l node) s (sym e) f g)
       (λ i q. ⊎-elim inl (λ h. inr (sym (h .0) ∙ sym e)) (used-more w x i s q))
 
-  -- the access does not use the item so, or its job has no place
+  -- the access does not use the item so, or its job has no node
   pub used-miss : (l : Ledger) (w : Bool) (x : ℕ) (s : List Access) (set : ℕ)
       → ((p : ℕ) → p < l .count → number-at l p ≡ a .job → a .item ≡ x → a .writes ≡ w → ⊥)
       → Marks l (λ i. Used w x i s) set → Marks l (λ i. Used w x i (s ++ a ∷ [])) set
@@ -108,29 +108,29 @@ module _ (a : Access) where
 
 -- the users of an item, one act more
 module _ (l : Ledger) (x : ℕ) (u v : Users) where
-  pub users-read : (place j y n : ℕ) → Apart l → place < l .count → number-at l place ≡ j → y ≡ x
-      → ((p : ℕ) → has (v .readers) p ≡ (has (u .readers) p || eqb p place)) → v .writers ≡ u .writers
+  pub users-read : (node j y n : ℕ) → Apart l → node < l .count → number-at l node ≡ j → y ≡ x
+      → ((p : ℕ) → has (v .readers) p ≡ (has (u .readers) p || eqb p node)) → v .writers ≡ u .writers
       → (s : List Access) → UsersOf s l x u → UsersOf (s ++ accesses (Read j y n ∷ [])) l x v
-  users-read place j y n apart b e f same keep s m =
+  users-read node j y n apart b e f same keep s m =
       let a : Access = record { job = j; item = y; writes = false; value = n } in
       record {
-        readers = used-hit a l false x s (u .readers) (v .readers) place apart b e f refl (m .readers) same;
+        readers = used-hit a l false x s (u .readers) (v .readers) node apart b e f refl (m .readers) same;
         writers = subst (Marks l (λ i. Used true x i (s ++ a ∷ []))) (sym keep)
             (used-miss a l true x s (u .writers) (λ p c d g h. both-ways true (sym h) refl) (m .writers));
       }
 
-  pub users-write : (place j y n : ℕ) → Apart l → place < l .count → number-at l place ≡ j → y ≡ x
-      → ((p : ℕ) → has (v .writers) p ≡ (has (u .writers) p || eqb p place)) → v .readers ≡ u .readers
+  pub users-write : (node j y n : ℕ) → Apart l → node < l .count → number-at l node ≡ j → y ≡ x
+      → ((p : ℕ) → has (v .writers) p ≡ (has (u .writers) p || eqb p node)) → v .readers ≡ u .readers
       → (s : List Access) → UsersOf s l x u → UsersOf (s ++ accesses (Write j y n ∷ [])) l x v
-  users-write place j y n apart b e f same keep s m =
+  users-write node j y n apart b e f same keep s m =
       let a : Access = record { job = j; item = y; writes = true; value = n } in
       record {
         readers = subst (Marks l (λ i. Used false x i (s ++ a ∷ []))) (sym keep)
             (used-miss a l false x s (u .readers) (λ p c d g h. both-ways true h refl) (m .readers));
-        writers = used-hit a l true x s (u .writers) (v .writers) place apart b e f refl (m .writers) same;
+        writers = used-hit a l true x s (u .writers) (v .writers) node apart b e f refl (m .writers) same;
       }
 
--- the users of an item after an access that they do not have: to another item, or of a job without a place
+-- the users of an item after an access that they do not have: to another item, or of a job without a node
 pub users-miss : (l : Ledger) (x : ℕ) (u : Users) (a : Access)
     → ((p : ℕ) → p < l .count → number-at l p ≡ a .job → a .item ≡ x → ⊥)
     → (s : List Access) → UsersOf s l x u → UsersOf (s ++ a ∷ []) l x u

@@ -1,4 +1,4 @@
--- From the places of a ledger to the jobs of the acts: cycles and orders.
+-- From the nodes of a ledger to the jobs of the acts: cycles and orders.
 use mathlib.Core.Path.{_≡_, refl, sym, ap, subst, subst₂, _∙_}
 use mathlib.Core.Bool.{Bool, true, false, not, _&&_}
 use mathlib.Core.List.{List, [], _∷_, _++_, map}
@@ -29,11 +29,12 @@ use Rattle.history.proofs.Lists.{∈-dec, T-true, true-T}
 use Rattle.verdict.specs.declared.ledger.Ledger.{Ledger}
 use Rattle.verdict.specs.Turns.{opened}
 use Rattle.verdict.specs.Ledgers.{number-at, Keeps}
-use Rattle.verdict.specs.Verdicts.{Unled, SmallestFirst, Decides, numbered, PlaceEdges, Ready, NodeCycle, NodeOrder}
+use Rattle.verdict.specs.Verdicts.{Unled, SmallestFirst, Decides}
+use Rattle.verdict.specs.Shown.{numbered, NodeEdges, Ready, NodeCycle, NodeOrder}
 use Rattle.verdict.specs.declared.judge.Verdict.the-variants.{Yes, No}
-use Rattle.verdict.proofs.Ledgers.{apart, place-of}
+use Rattle.verdict.proofs.Ledgers.{apart, node-of}
 
--- a member of a list of numbers is the number of a place in the list of places
+-- a member of a list of numbers is the number of a node in the list of places
 in-numbered : (l : Ledger) (j : ℕ) (ns : List ℕ) → j ∈ numbered l ns → (p : ℕ) × (p ∈ ns) × (number-at l p ≡ j)
 in-numbered l j [] h = absurd h
 in-numbered l j (n ∷ ns) (inl e) = (n, inl refl, sym e)
@@ -45,48 +46,48 @@ numbered-in l p (n ∷ ns) (inl e) = inl (ap (number-at l) e)
 numbered-in l p (n ∷ ns) (inr h) = inr (numbered-in l p ns h)
 
 module _ (H : List Act) (l : Ledger) (k : Keeps H l) where
-  -- the places of the jobs that count
-  kept-place : (p : ℕ) → T (has (l .kept) p) → (p < l .count) × Kept not-aborted H (number-at l p)
-  kept-place p t = k .kept .only p (T-true (has (l .kept) p) t)
+  -- the nodes of the jobs that count
+  kept-node : (p : ℕ) → T (has (l .kept) p) → (p < l .count) × Kept not-aborted H (number-at l p)
+  kept-node p t = k .kept .only p (T-true (has (l .kept) p) t)
 
-  place-kept : (p : ℕ) → p < l .count → Kept not-aborted H (number-at l p) → T (has (l .kept) p)
-  place-kept p b q = true-T (has (l .kept) p) (k .kept .all p b q)
+  node-kept : (p : ℕ) → p < l .count → Kept not-aborted H (number-at l p) → T (has (l .kept) p)
+  node-kept p b q = true-T (has (l .kept) p) (k .kept .all p b q)
 
-  place-of-kept : (j : ℕ) → Kept not-aborted H j → (p : ℕ) × (p < l .count) × (number-at l p ≡ j)
-  place-of-kept j q = elim (∈-dec j (opened H)) [
-    | inl i ↦ place-of H l k j i
+  node-of-kept : (j : ℕ) → Kept not-aborted H j → (p : ℕ) × (p < l .count) × (number-at l p ≡ j)
+  node-of-kept j q = elim (∈-dec j (opened H)) [
+    | inl i ↦ node-of H l k j i
     | inr n ↦ absurd (subst (λ f. T (not-aborted f)) (k .unopened j n) q)
   ]
 
-  same-place : (p q : ℕ) → T (has (l .kept) p) → T (has (l .kept) q) → number-at l p ≡ number-at l q → p ≡ q
-  same-place p q s t = apart H l k p q (kept-place p s .0) (kept-place q t .0)
+  same-node : (p q : ℕ) → T (has (l .kept) p) → T (has (l .kept) q) → number-at l p ≡ number-at l q → p ≡ q
+  same-node p q s t = apart H l k p q (kept-node p s .0) (kept-node q t .0)
 
-  -- an edge between two places of jobs that count is one between the jobs, and the other way round
-  place-edge : (p q : ℕ) → T (has (l .kept) p) → T (has (l .kept) q) → PlaceEdges l p q → Edge not-aborted H (number-at l p) (number-at l q)
-  place-edge p q s t e =
-      let a = kept-place p s in
-      let b = kept-place q t in
+  -- an edge between two nodes of jobs that count is one between the jobs, and the other way round
+  node-edge : (p q : ℕ) → T (has (l .kept) p) → T (has (l .kept) q) → NodeEdges l p q → Edge not-aborted H (number-at l p) (number-at l q)
+  node-edge p q s t e =
+      let a = kept-node p s in
+      let b = kept-node q t in
       (a .1, b .1, k .edges q (b .0) .only p (T-true (has (getD (l .into) q 0) p) (T-parts (ltb q 64) (has (getD (l .into) q 0) p) (e .2) .1)) .1)
 
-  edge-place : (p q : ℕ) → p < l .count → q < l .count → Edge not-aborted H (number-at l p) (number-at l q) → PlaceEdges l p q
-  edge-place p q a b e =
+  edge-node : (p q : ℕ) → p < l .count → q < l .count → Edge not-aborted H (number-at l p) (number-at l q) → NodeEdges l p q
+  edge-node p q a b e =
       let c : p < 64 = omega (arith, k .few) in
       let d : q < 64 = omega (arith, k .few) in
       (c, d, T-both (ltb q 64) (has (getD (l .into) q 0) p) (lt→ltb q 64 d) (true-T (has (getD (l .into) q 0) p) (k .edges q b .all p a (e .2))))
 
   -- CYCLES
 
-  within-edge : (p q : ℕ) → Within (l .kept) (PlaceEdges l) p q → Edge not-aborted H (number-at l p) (number-at l q)
-  within-edge p q e = place-edge p q (e .0) (e .1) (e .2)
+  within-edge : (p q : ℕ) → Within (l .kept) (NodeEdges l) p q → Edge not-aborted H (number-at l p) (number-at l q)
+  within-edge p q e = node-edge p q (e .0) (e .1) (e .2)
 
-  path-numbers : {p q : ℕ} → Path (Within (l .kept) (PlaceEdges l)) p q → Path (Edge not-aborted H) (number-at l p) (number-at l q)
+  path-numbers : {p q : ℕ} → Path (Within (l .kept) (NodeEdges l)) p q → Path (Edge not-aborted H) (number-at l p) (number-at l q)
   path-numbers (edge e) = edge (within-edge _ _ e)
   path-numbers (e then r) = within-edge _ _ e then path-numbers r
 
-  pub cycle-refutes : Cycle (Within (l .kept) (PlaceEdges l)) → ConflictSerializable not-aborted H → ⊥
+  pub cycle-refutes : Cycle (Within (l .kept) (NodeEdges l)) → ConflictSerializable not-aborted H → ⊥
   cycle-refutes c s = arrangement-has-no-cycle not-aborted H (s .0) (s .1) (s .2) (number-at l (c .0), path-numbers (c .1))
 
-  linked-numbers : (p : ℕ) (ns : List ℕ) → Linked (Within (l .kept) (PlaceEdges l)) (p ∷ ns) → Linked (Edge not-aborted H) (numbered l (p ∷ ns))
+  linked-numbers : (p : ℕ) (ns : List ℕ) → Linked (Within (l .kept) (NodeEdges l)) (p ∷ ns) → Linked (Edge not-aborted H) (numbered l (p ∷ ns))
   linked-numbers p [] h = tt
   linked-numbers p (q ∷ ns) h = (within-edge p q (h .0), linked-numbers q ns (h .1))
 
@@ -94,11 +95,11 @@ module _ (H : List Act) (l : Ledger) (k : Keeps H l) where
   distinct-numbers [] inside d = tt
   distinct-numbers (n ∷ ns) inside d = (
     (λ h. let q = in-numbered l (number-at l n) ns h in
-        d .0 (subst (λ m. m ∈ ns) (same-place (q .0) n (inside (q .0) (inr (q .1))) (inside n (inl refl)) (q .2)) (q .1))),
+        d .0 (subst (λ m. m ∈ ns) (same-node (q .0) n (inside (q .0) (inr (q .1))) (inside n (inl refl)) (q .2)) (q .1))),
     distinct-numbers ns (λ p i. inside p (inr i)) (d .1),
   )
 
-  linked-inside : (p m : ℕ) (ns : List ℕ) → Linked (Within (l .kept) (PlaceEdges l)) (p ∷ ns ++ m ∷ []) → (q : ℕ) → q ∈ (p ∷ ns) → T (has (l .kept) q)
+  linked-inside : (p m : ℕ) (ns : List ℕ) → Linked (Within (l .kept) (NodeEdges l)) (p ∷ ns ++ m ∷ []) → (q : ℕ) → q ∈ (p ∷ ns) → T (has (l .kept) q)
   linked-inside p m [] h q (inl e) = subst (λ x. T (has (l .kept) x)) (sym e) (h .0 .0)
   linked-inside p m [] h q (inr b) = absurd b
   linked-inside p m (x ∷ ns) h q (inl e) = subst (λ y. T (has (l .kept) y)) (sym e) (h .0 .0)
@@ -108,21 +109,21 @@ module _ (H : List Act) (l : Ledger) (k : Keeps H l) where
   map-end [] m = refl
   map-end (n ∷ ns) m = ap (λ js. number-at l n ∷ js) (map-end ns m)
 
-  pub cycle-shown : (ns : List ℕ) → ShowsCycle (Within (l .kept) (PlaceEdges l)) ns → ShowsCycle (Edge not-aborted H) (numbered l ns)
+  pub cycle-shown : (ns : List ℕ) → ShowsCycle (Within (l .kept) (NodeEdges l)) ns → ShowsCycle (Edge not-aborted H) (numbered l ns)
   cycle-shown [] h = absurd h
   cycle-shown (n ∷ ns) h = (
     subst (λ js. Linked (Edge not-aborted H) (number-at l n ∷ js)) (map-end ns n) (linked-numbers n (ns ++ n ∷ []) (h .0)),
     distinct-numbers (n ∷ ns) (linked-inside n n ns (h .0)) (h .1),
   )
 
-  -- the places of a cycle are those of jobs that were opened, and not more of them
-  pub cycle-inside : (ns : List ℕ) → ShowsCycle (Within (l .kept) (PlaceEdges l)) ns → (q : ℕ) → q ∈ ns → q < l .count
+  -- the nodes of a cycle are those of jobs that were opened, and not more of them
+  pub cycle-inside : (ns : List ℕ) → ShowsCycle (Within (l .kept) (NodeEdges l)) ns → (q : ℕ) → q ∈ ns → q < l .count
   cycle-inside [] h q i = absurd h
-  cycle-inside (n ∷ ns) h q i = kept-place q (linked-inside n n ns (h .0) q i) .0
+  cycle-inside (n ∷ ns) h q i = kept-node q (linked-inside n n ns (h .0) q i) .0
 
   -- ORDERS
 
-  -- the places that pass a test are those of the jobs of which P holds, and they count
+  -- the nodes that pass a test are those of the jobs of which P holds, and they count
   record Mirrors (left : Test) (P : ℕ → Type 0) : Type 0 where
     inside : (p : ℕ) → T (left p) → T (has (l .kept) p)
     to : (p : ℕ) → T (left p) → P (number-at l p)
@@ -132,22 +133,22 @@ module _ (H : List Act) (l : Ledger) (k : Keeps H l) where
   mirrors-but left P n t m = record {
     inside = λ p s. m .inside p (but-parts left n p s .0);
     to = λ p s. let b = but-parts left n p s in
-        (m .to p (b .0), λ e. b .1 (same-place p n (m .inside p (b .0)) (m .inside n t) e));
+        (m .to p (b .0), λ e. b .1 (same-node p n (m .inside p (b .0)) (m .inside n t) e));
     back = λ j q. let b = m .back j (q .0) in
         (b .0, but-both left n (b .0) (b .1) (λ e. q .1 (sym (b .2) ∙ ap (number-at l) e)), b .2);
   }
 
-  -- between places that mirror jobs, no edge leads into a place exactly when none leads into its job
-  free-unled : (left : Test) (P : ℕ → Type 0) → Mirrors left P → (n : ℕ) → T (left n) → Free (PlaceEdges l) left n → Unled (Edge not-aborted H) P (number-at l n)
+  -- between places that mirror jobs, no edge leads into a node exactly when none leads into its job
+  free-unled : (left : Test) (P : ℕ → Type 0) → Mirrors left P → (n : ℕ) → T (left n) → Free (NodeEdges l) left n → Unled (Edge not-aborted H) P (number-at l n)
   free-unled left P m n t free i q e =
       let b = m .back i q in
-      free (b .0) (b .1) (edge-place (b .0) n (kept-place (b .0) (m .inside (b .0) (b .1)) .0) (kept-place n (m .inside n t) .0)
+      free (b .0) (b .1) (edge-node (b .0) n (kept-node (b .0) (m .inside (b .0) (b .1)) .0) (kept-node n (m .inside n t) .0)
       (subst (λ x. Edge not-aborted H x (number-at l n)) (sym (b .2)) e))
 
-  unled-free : (left : Test) (P : ℕ → Type 0) → Mirrors left P → (n : ℕ) → T (left n) → Unled (Edge not-aborted H) P (number-at l n) → Free (PlaceEdges l) left n
-  unled-free left P m n t unled p s e = unled (number-at l p) (m .to p s) (place-edge p n (m .inside p s) (m .inside n t) e)
+  unled-free : (left : Test) (P : ℕ → Type 0) → Mirrors left P → (n : ℕ) → T (left n) → Unled (Edge not-aborted H) P (number-at l n) → Free (NodeEdges l) left n
+  unled-free left P m n t unled p s e = unled (number-at l p) (m .to p s) (node-edge p n (m .inside p s) (m .inside n t) e)
 
-  smallest : (left : Test) (P : ℕ → Type 0) → Mirrors left P → (ns : List ℕ) → Ordered (PlaceEdges l) 64 (l .numbers) left ns
+  smallest : (left : Test) (P : ℕ → Type 0) → Mirrors left P → (ns : List ℕ) → Ordered (NodeEdges l) 64 (l .numbers) left ns
       → ((p : ℕ) → T (left p) → p ∈ ns) → SmallestFirst (Edge not-aborted H) P (numbered l ns)
   smallest left P m [] o all = λ j q. let b = m .back j q in all (b .0) (b .1)
   smallest left P m (n ∷ ns) o all =
@@ -156,7 +157,7 @@ module _ (H : List Act) (l : Ledger) (k : Keeps H l) where
         free-unled left P m n (f .among) (f .free),
         (λ i q u.
             let b = m .back i q in
-            let few : b .0 < 64 = omega (arith, kept-place (b .0) (m .inside (b .0) (b .1)) .0, k .few) in
+            let few : b .0 < 64 = omega (arith, kept-node (b .0) (m .inside (b .0) (b .1)) .0, k .few) in
             let free = unled-free left P m (b .0) (b .1) (subst (Unled (Edge not-aborted H) P) (sym (b .2)) u) in
             subst (λ x. number-at l n ≤ x) (b .2) (⊎-elim (λ h. omega arith) (λ h. omega arith) (f .first (b .0) few (b .1) free))),
         smallest (but left n) (λ i. P i × (i ≡ number-at l n → ⊥)) (mirrors-but left P n (f .among) m) ns (o .1)
@@ -166,24 +167,24 @@ module _ (H : List Act) (l : Ledger) (k : Keeps H l) where
   kept-mirrors : Mirrors (has (l .kept)) (Kept not-aborted H)
   kept-mirrors = record {
     inside = λ p t. t;
-    to = λ p t. kept-place p t .1;
-    back = λ j q. let b = place-of-kept j q in (b .0, place-kept (b .0) (b .1) (subst (Kept not-aborted H) (sym (b .2)) q), b .2);
+    to = λ p t. kept-node p t .1;
+    back = λ j q. let b = node-of-kept j q in (b .0, node-kept (b .0) (b .1) (subst (Kept not-aborted H) (sym (b .2)) q), b .2);
   }
 
-  module _ (ns : List ℕ) (o : Orders (PlaceEdges l) 64 (l .numbers) (l .kept) ns) (none : Cycle (Within (l .kept) (PlaceEdges l)) → ⊥) where
+  module _ (ns : List ℕ) (o : Orders (NodeEdges l) 64 (l .numbers) (l .kept) ns) (none : Cycle (Within (l .kept) (NodeEdges l)) → ⊥) where
     all-placed : (p : ℕ) → T (has (l .kept) p) → p ∈ ns
     all-placed p t = elim (∈-dec p ns) [
       | inl i ↦ i
-      | inr n ↦ let c = o .short p (omega (arith, kept-place p t .0, k .few)) t n in
+      | inr n ↦ let c = o .short p (omega (arith, kept-node p t .0, k .few)) t n in
           absurd (none (c .0, path-map (λ i j e. e .2) (c .1)))
     ]
 
-    forward-numbers : (ms : List ℕ) → ((p : ℕ) → p ∈ ms → T (has (l .kept) p)) → Forward (PlaceEdges l) ms → Forward (Edge not-aborted H) (numbered l ms)
+    forward-numbers : (ms : List ℕ) → ((p : ℕ) → p ∈ ms → T (has (l .kept) p)) → Forward (NodeEdges l) ms → Forward (Edge not-aborted H) (numbered l ms)
     forward-numbers [] inside f = tt
     forward-numbers (n ∷ ms) inside f = (
       (λ y h e.
           let q = in-numbered l y ms h in
-          f .0 (q .0) (q .1) (edge-place (q .0) n (kept-place (q .0) (inside (q .0) (inr (q .1))) .0) (kept-place n (inside n (inl refl)) .0)
+          f .0 (q .0) (q .1) (edge-node (q .0) n (kept-node (q .0) (inside (q .0) (inr (q .1))) .0) (kept-node n (inside n (inl refl)) .0)
           (subst (λ x. Edge not-aborted H x (number-at l n)) (sym (q .2)) e))),
       forward-numbers ms (λ p i. inside p (inr i)) (f .1),
     )
@@ -194,7 +195,7 @@ module _ (H : List Act) (l : Ledger) (k : Keeps H l) where
       all = λ j q. let b = kept-mirrors .back j q in
           subst (λ x. x ∈ numbered l ns) (b .2) (numbered-in l (b .0) ns (all-placed (b .0) (b .1)));
       only = λ j i. let q = in-numbered l j ns i in
-          subst (Kept not-aborted H) (q .2) (kept-place (q .0) (o .only (q .0) (q .1) .1) .1);
+          subst (Kept not-aborted H) (q .2) (kept-node (q .0) (o .only (q .0) (q .1) .1) .1);
       forward = forward-numbers ns (λ p i. o .only p i .1) (o .forward);
     }
 
@@ -205,9 +206,9 @@ module _ (H : List Act) (l : Ledger) (k : Keeps H l) where
     order-serializable = order-gives-arrangement not-aborted H (numbered l ns) order-serial
 
     pub order-inside : (q : ℕ) → q ∈ ns → q < l .count
-    order-inside q i = kept-place q (o .only q i .1) .0
+    order-inside q i = kept-node q (o .only q i .1) .0
 
--- distinct places of jobs fit the list, if it has a place for each job
+-- distinct nodes of jobs fit the list, if it has a place for each job
 pub places-fit : (l : Ledger) (n : NodeList) (places : ℕ) → l .count ≤ 64 → l .count ≤ places → Distinct (listed n)
     → ((q : ℕ) → q ∈ listed n → q < l .count) → n .count ≤ 64 → length (n .nodes) ≡ 64
     → (n .count ≤ 64) × (n .count ≤ places) × ((k : ℕ) → k < n .count → getD (n .nodes) k 0 < 64) × (length (n .nodes) ≡ 64)

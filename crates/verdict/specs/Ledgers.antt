@@ -22,7 +22,7 @@ use Rattle.verdict.specs.declared.refusal.JudgeRefusal.the-variants.{OutOfTurn
 use Rattle.verdict.specs.declared.ledger.Ledger.{Ledger}
 use Rattle.verdict.specs.declared.ledger.Users.{Users}
 
--- the number of the job at a place
+-- the number of the job at a node
 abbrev pub number-at : Ledger → ℕ → ℕ
 number-at l p = getD (l .numbers) p 0
 
@@ -38,23 +38,23 @@ blank = record {
   writers = replicate 64 0;
 }
 
--- an edge leads to the job at place q from that at place p
+-- an edge leads to the job at node q from that at node p
 abbrev pub marked : Ledger → ℕ → ℕ → Bool
 marked l p q = has (getD (l .into) q 0) p
 
--- a place of the job is answered, or it has none and none is answered
+-- the node of the job is answered, or it has none and none is answered
 abbrev pub Finds : Ledger → ℕ → Option ℕ → Type 0
 Finds l job None = (p : ℕ) → p < l .count → number-at l p ≡ job → ⊥
 Finds l job (Some p) = (p < l .count) × (number-at l p ≡ job)
 
--- a place of the job is answered, at which it is open; or it has none, or is not open at a place that it has
+-- the node of the job is answered, where it is open; or it has none, or is not open at one that it has
 abbrev pub FindsOpen : Ledger → ℕ → Option ℕ → Type 0
 FindsOpen l job None =
     ((p : ℕ) → p < l .count → number-at l p ≡ job → ⊥)
     ⊎ ((p : ℕ) × (p < l .count) × (number-at l p ≡ job) × (has (l .running) p ≡ false))
 FindsOpen l job (Some p) = (p < l .count) × (number-at l p ≡ job) × (has (l .running) p ≡ true)
 
--- the job has the next place, is open and counts
+-- the job has the next node, is open and counts
 pub record Opens (l : Ledger) (job : ℕ) (m : Ledger) : Type 0 where
   pub numbers : m .numbers ≡ set (l .numbers) (l .count) job
   pub count : m .count ≡ l .count + 1
@@ -64,68 +64,68 @@ pub record Opens (l : Ledger) (job : ℕ) (m : Ledger) : Type 0 where
   pub readers : m .readers ≡ l .readers
   pub writers : m .writers ≡ l .writers
 
--- the job at the place is not open
-pub record Ends (l : Ledger) (place : ℕ) (m : Ledger) : Type 0 where
+-- the job at the node is not open
+pub record Ends (l : Ledger) (node : ℕ) (m : Ledger) : Type 0 where
   pub numbers : m .numbers ≡ l .numbers
   pub count : m .count ≡ l .count
-  pub running : (p : ℕ) → has (m .running) p ≡ (has (l .running) p && not (eqb p place))
+  pub running : (p : ℕ) → has (m .running) p ≡ (has (l .running) p && not (eqb p node))
   pub kept : m .kept ≡ l .kept
   pub into : m .into ≡ l .into
   pub readers : m .readers ≡ l .readers
   pub writers : m .writers ≡ l .writers
 
--- the job at the place is not open and does not count
-pub record Drops (l : Ledger) (place : ℕ) (m : Ledger) : Type 0 where
+-- the job at the node is not open and does not count
+pub record Drops (l : Ledger) (node : ℕ) (m : Ledger) : Type 0 where
   pub numbers : m .numbers ≡ l .numbers
   pub count : m .count ≡ l .count
-  pub running : (p : ℕ) → has (m .running) p ≡ (has (l .running) p && not (eqb p place))
-  pub kept : (p : ℕ) → has (m .kept) p ≡ (has (l .kept) p && not (eqb p place))
+  pub running : (p : ℕ) → has (m .running) p ≡ (has (l .running) p && not (eqb p node))
+  pub kept : (p : ℕ) → has (m .kept) p ≡ (has (l .kept) p && not (eqb p node))
   pub into : m .into ≡ l .into
   pub readers : m .readers ≡ l .readers
   pub writers : m .writers ≡ l .writers
 
--- edges lead to the job at the place from the others of the set too
-pub record Draws (l : Ledger) (place from : ℕ) (m : Ledger) : Type 0 where
+-- edges lead to the job at the node from the others of the set too
+pub record Draws (l : Ledger) (node from : ℕ) (m : Ledger) : Type 0 where
   pub numbers : m .numbers ≡ l .numbers
   pub count : m .count ≡ l .count
   pub running : m .running ≡ l .running
   pub kept : m .kept ≡ l .kept
   pub readers : m .readers ≡ l .readers
   pub writers : m .writers ≡ l .writers
-  pub into : m .into ≡ set (l .into) place (getD (m .into) place 0)
-  pub here : (p : ℕ) → marked m p place ≡ (marked l p place || (has from p && not (eqb p place)))
+  pub into : m .into ≡ set (l .into) node (getD (m .into) node 0)
+  pub here : (p : ℕ) → marked m p node ≡ (marked l p node || (has from p && not (eqb p node)))
 
--- a table of users by item, for items below 64, with the job at a place added as a user of item x
-pub record Table (old new : List ℕ) (x place : ℕ) : Type 0 where
+-- a table of users by item, for items below 64, with the job at a node added as a user of item x
+pub record Table (old new : List ℕ) (x node : ℕ) : Type 0 where
   pub length : length new ≡ length old
   pub other : (y : ℕ) → (y ≡ x → ⊥) → getD new y 0 ≡ getD old y 0
-  pub here : x < 64 → (p : ℕ) → has (getD new x 0) p ≡ (has (getD old x 0) p || eqb p place)
+  pub here : x < 64 → (p : ℕ) → has (getD new x 0) p ≡ (has (getD old x 0) p || eqb p node)
 
--- the job at the place is a reader of the item too
-pub record NotesRead (l : Ledger) (x place : ℕ) (m : Ledger) : Type 0 where
+-- the job at the node is a reader of the item too
+pub record NotesRead (l : Ledger) (x node : ℕ) (m : Ledger) : Type 0 where
   pub numbers : m .numbers ≡ l .numbers
   pub count : m .count ≡ l .count
   pub running : m .running ≡ l .running
   pub kept : m .kept ≡ l .kept
   pub into : m .into ≡ l .into
-  pub readers : Table (l .readers) (m .readers) x place
+  pub readers : Table (l .readers) (m .readers) x node
   pub writers : m .writers ≡ l .writers
 
--- the job at the place is a writer of the item too
-pub record NotesWrite (l : Ledger) (x place : ℕ) (m : Ledger) : Type 0 where
+-- the job at the node is a writer of the item too
+pub record NotesWrite (l : Ledger) (x node : ℕ) (m : Ledger) : Type 0 where
   pub numbers : m .numbers ≡ l .numbers
   pub count : m .count ≡ l .count
   pub running : m .running ≡ l .running
   pub kept : m .kept ≡ l .kept
   pub into : m .into ≡ l .into
   pub readers : m .readers ≡ l .readers
-  pub writers : Table (l .writers) (m .writers) x place
+  pub writers : Table (l .writers) (m .writers) x node
 
 -- the users of an item that the ledger has
 abbrev pub users-at : Ledger → ℕ → Users
 users-at l x = record { readers = getD (l .readers) x 0; writers = getD (l .writers) x 0 }
 
--- the marked places are those of the jobs of which P holds
+-- the marked nodes are those of the jobs of which P holds
 pub record Marks (l : Ledger) (P : ℕ → Type 0) (set : ℕ) : Type 0 where
   pub only : (p : ℕ) → has set p ≡ true → (p < l .count) × P (number-at l p)
   pub all : (p : ℕ) → p < l .count → P (number-at l p) → has set p ≡ true

@@ -1,18 +1,11 @@
 -- What the judge answers. Rests on Turns, on the conflicts of a list of acts, and on conflict equivalence.
 use mathlib.Core.Path.{_≡_}
-use mathlib.Core.List.{List, [], _∷_, map}
+use mathlib.Core.List.{List, [], _∷_}
 use Prim.Native.Nat.{ℕ, _≤_}
 use lib.ListN.{length, take, drop}
 use Rattle.std.specs.declared.result.Result.{Result}
 use Rattle.std.specs.declared.result.Result.the-variants.{Ok, Err}
-use Rattle.std.specs.declared.option.Option.{Option}
-use Rattle.graph.specs.Edges.{Edges, Within}
-use Rattle.graph.specs.Lists.{listed}
-use Rattle.graph.specs.Orders.{Orders}
-use Rattle.graph.specs.Outcomes.{FindsCycle}
 use Rattle.graph.specs.Paths.{Relation, ShowsCycle}
-use Rattle.graph.specs.Rows.{marked as marked-rows}
-use Rattle.graph.specs.declared.list.NodeList.{NodeList}
 use Rattle.trace.specs.declared.act.Act.{Act}
 use Rattle.history.specs.Acts.{Keep, Kept}
 use Rattle.history.specs.Conflicts.{Edge, SerialOrder}
@@ -20,8 +13,6 @@ use Rattle.history.specs.Arrangements.{ConflictSerializable}
 use Rattle.verdict.specs.declared.judge.Verdict.{Verdict}
 use Rattle.verdict.specs.declared.judge.Verdict.the-variants.{Yes, No}
 use Rattle.verdict.specs.declared.refusal.JudgeRefusal.{JudgeRefusal}
-use Rattle.verdict.specs.declared.ledger.Ledger.{Ledger}
-use Rattle.verdict.specs.Ledgers.{number-at, Keeps}
 use Rattle.verdict.specs.Turns.{Sound, Refuses, opened}
 
 -- no job that is left has an edge to j
@@ -59,23 +50,3 @@ Decides keep H before (No n) after = (ConflictSerializable keep H → ⊥) × Sh
 abbrev pub Judges : Keep → List Act → List ℕ → Result Verdict JudgeRefusal → List ℕ → Type 0
 Judges keep H before (Ok v) after = Sound H (length H) × (length (opened H) ≤ length before) × Decides keep H before v after
 Judges keep H before (Err r) after = Refuses H (length before) r × (after ≡ before)
-
--- the numbers of the jobs at these places of a ledger
-abbrev pub numbered : Ledger → List ℕ → List ℕ
-numbered l places = map (number-at l) places
-
--- the edges between the places of a ledger
-abbrev pub PlaceEdges : Ledger → Relation
-PlaceEdges l = Edges 64 (marked-rows 64 (l .into))
-
--- the ledger is that of some acts, and the list has a place for each of its jobs
-abbrev pub Ready : Ledger → ℕ → Type 0
-Ready l places = ((H : List Act) × Keeps H l) × (l .count ≤ places)
-
--- a cycle among the places of the jobs that count, or none
-abbrev pub NodeCycle : Ledger → Option NodeList → Type 0
-NodeCycle l r = FindsCycle (Within (l .kept) (PlaceEdges l)) r
-
--- the order of the places of the jobs that count, by number and edges
-abbrev pub NodeOrder : Ledger → NodeList → Type 0
-NodeOrder l r = Orders (PlaceEdges l) 64 (l .numbers) (l .kept) (listed r) × (r .count ≤ 64) × (length (r .nodes) ≡ 64)

@@ -13,23 +13,23 @@ use graph::nodes::union;
 use graph::nodes::with;
 use graph::nodes::without;
 
-// The jobs opened so far, each at a place in the order of opening: their numbers, which of them are open, which of
+// The jobs opened so far, each at a node in the order of opening: their numbers, which of them are open, which of
 // them count, and for each the set of those with an edge to it. For each item below 64 the jobs that read it and those
 // that wrote it.
 #[derive(Clone, Copy)]
-pub struct Ledger {
-    pub numbers: [u32; 64],
-    pub count: usize,
-    pub running: NodeSet,
-    pub kept: NodeSet,
-    pub into: [u64; 64],
-    pub readers: [u64; 64],
-    pub writers: [u64; 64],
+pub(crate) struct Ledger {
+    pub(crate) numbers: [u32; 64],
+    pub(crate) count: usize,
+    pub(crate) running: NodeSet,
+    pub(crate) kept: NodeSet,
+    pub(crate) into: [u64; 64],
+    pub(crate) readers: [u64; 64],
+    pub(crate) writers: [u64; 64],
 }
 
 impl Ledger {
     // No job is opened.
-    pub fn new() -> Ledger
+    pub(crate) fn new() -> Ledger
         ensures { λ r. ⌜ r ≡ blank ⌝ }
     {
         Ledger {
@@ -43,28 +43,28 @@ impl Ledger {
         }
     }
 
-    // The place of the job with this number.
-    pub fn find(&self, job: u32) -> Option<usize>
+    // The node of the job with this number.
+    pub(crate) fn find(&self, job: u32) -> Option<usize>
         requires { ⌜ now self .count ≤ 64 ⌝ }
         ensures { λ r. ⌜ Finds (now (self .entry)) job r ⌝ }
     {
-        for place in 0..self.count {
-            if self.numbers[place] == job {
-                return Some(place);
+        for node in 0..self.count {
+            if self.numbers[node] == job {
+                return Some(node);
             }
         }
         None
     }
 
-    // The place of the job with this number, if it is open.
-    pub fn find_open(&self, job: u32) -> Option<usize>
+    // The node of the job with this number, if it is open.
+    pub(crate) fn find_open(&self, job: u32) -> Option<usize>
         requires { ⌜ now self .count ≤ 64 ⌝ }
         ensures { λ r. ⌜ FindsOpen (now (self .entry)) job r ⌝ }
     {
         match self.find(job) {
-            Some(place) => {
-                if contains(self.running, place) {
-                    Some(place)
+            Some(node) => {
+                if contains(self.running, node) {
+                    Some(node)
                 } else {
                     None
                 }
@@ -73,8 +73,8 @@ impl Ledger {
         }
     }
 
-    // Opens a job at the next place.
-    pub fn add(&mut self, job: u32)
+    // Opens a job at the next node.
+    pub(crate) fn add(&mut self, job: u32)
         requires { ⌜ now self .count < 64 ⌝ }
         ensures { λ _. ⌜ Opens (now (self .entry)) job (now (self .exit)) ⌝ }
     {
@@ -84,32 +84,32 @@ impl Ledger {
         self.count += 1;
     }
 
-    // The job at the place is open no more.
-    pub fn end(&mut self, place: usize)
-        ensures { λ _. ⌜ Ends (now (self .entry)) place (now (self .exit)) ⌝ }
+    // The job at the node is open no more.
+    pub(crate) fn end(&mut self, node: usize)
+        ensures { λ _. ⌜ Ends (now (self .entry)) node (now (self .exit)) ⌝ }
     {
-        self.running = without(self.running, place);
+        self.running = without(self.running, node);
     }
 
-    // The job at the place is open no more, and does not count.
-    pub fn strike(&mut self, place: usize)
-        ensures { λ _. ⌜ Drops (now (self .entry)) place (now (self .exit)) ⌝ }
+    // The job at the node is open no more, and does not count.
+    pub(crate) fn strike(&mut self, node: usize)
+        ensures { λ _. ⌜ Drops (now (self .entry)) node (now (self .exit)) ⌝ }
     {
-        self.running = without(self.running, place);
-        self.kept = without(self.kept, place);
+        self.running = without(self.running, node);
+        self.kept = without(self.kept, node);
     }
 
-    // Draws edges to the job at the place from all others of the set.
-    pub fn draw(&mut self, place: usize, from: NodeSet)
-        requires { ⌜ place < 64 ⌝ }
-        ensures { λ _. ⌜ Draws (now (self .entry)) place from (now (self .exit)) ⌝ }
+    // Draws edges to the job at the node from all others of the set.
+    pub(crate) fn draw(&mut self, node: usize, from: NodeSet)
+        requires { ⌜ node < 64 ⌝ }
+        ensures { λ _. ⌜ Draws (now (self .entry)) node from (now (self .exit)) ⌝ }
     {
-        let others = without(from, place);
-        self.into[place] = union(self.into[place], others);
+        let others = without(from, node);
+        self.into[node] = union(self.into[node], others);
     }
 
     // The users of an item below 64.
-    pub fn users(&self, item: usize) -> Users
+    pub(crate) fn users(&self, item: usize) -> Users
         requires { ⌜ item < 64 ⌝ }
         ensures { λ r. ⌜ r ≡ users-at (now (self .entry)) item ⌝ }
     {
@@ -119,53 +119,53 @@ impl Ledger {
         }
     }
 
-    // Notes that the job at the place read the item, if it is below 64.
-    pub fn note_read(&mut self, item: u32, place: usize)
-        requires { ⌜ place < 64 ⌝ }
-        ensures { λ _. ⌜ NotesRead (now (self .entry)) item place (now (self .exit)) ⌝ }
+    // Notes that the job at the node read the item, if it is below 64.
+    pub(crate) fn note_read(&mut self, item: u32, node: usize)
+        requires { ⌜ node < 64 ⌝ }
+        ensures { λ _. ⌜ NotesRead (now (self .entry)) item node (now (self .exit)) ⌝ }
     {
         if item < 64 {
-            add(&mut self.readers, item as usize, place);
+            add(&mut self.readers, item as usize, node);
         }
     }
 
-    // Notes that the job at the place wrote the item, if it is below 64.
-    pub fn note_write(&mut self, item: u32, place: usize)
-        requires { ⌜ place < 64 ⌝ }
-        ensures { λ _. ⌜ NotesWrite (now (self .entry)) item place (now (self .exit)) ⌝ }
+    // Notes that the job at the node wrote the item, if it is below 64.
+    pub(crate) fn note_write(&mut self, item: u32, node: usize)
+        requires { ⌜ node < 64 ⌝ }
+        ensures { λ _. ⌜ NotesWrite (now (self .entry)) item node (now (self .exit)) ⌝ }
     {
         if item < 64 {
-            add(&mut self.writers, item as usize, place);
+            add(&mut self.writers, item as usize, node);
         }
     }
 }
 
-// Adds the job at the place to the users of an item below 64.
-fn add(table: &mut [u64; 64], item: usize, place: usize)
-    requires { ⌜ (item < 64) × (place < 64) ⌝ }
+// Adds the job at the node to the users of an item below 64.
+fn add(table: &mut [u64; 64], item: usize, node: usize)
+    requires { ⌜ (item < 64) × (node < 64) ⌝ }
     ensures set { λ _. ⌜ now (table .exit) ≡ set (now (table .entry)) item (getD (now (table .exit)) item 0) ⌝ }
-    ensures here { λ _. ⌜ ((p : ℕ) → has (getD (now (table .exit)) item 0) p ≡ (has (getD (now (table .entry)) item 0) p || eqb p place)) ⌝ }
+    ensures here { λ _. ⌜ ((p : ℕ) → has (getD (now (table .exit)) item 0) p ≡ (has (getD (now (table .entry)) item 0) p || eqb p node)) ⌝ }
 {
-    table[item] = with(table[item], place);
+    table[item] = with(table[item], node);
 }
 
 // The jobs that read an item so far, and those that wrote it.
 #[derive(Clone, Copy)]
-pub struct Users {
-    pub readers: NodeSet,
-    pub writers: NodeSet,
+pub(crate) struct Users {
+    pub(crate) readers: NodeSet,
+    pub(crate) writers: NodeSet,
 }
 
 impl Users {
     // The jobs with which a read of the item conflicts: those that wrote it.
-    pub fn before_read(&self) -> NodeSet
+    pub(crate) fn before_read(&self) -> NodeSet
         ensures { λ r. ⌜ ((p : ℕ) → has r p ≡ has (now (self .entry) .writers) p) ⌝ }
     {
         self.writers
     }
 
     // The jobs with which a write of the item conflicts: those that read or wrote it.
-    pub fn before_write(&self) -> NodeSet
+    pub(crate) fn before_write(&self) -> NodeSet
         ensures { λ r. ⌜ ((p : ℕ) → has r p ≡ (has (now (self .entry) .readers) p || has (now (self .entry) .writers) p)) ⌝ }
     {
         union(self.readers, self.writers)

@@ -27,8 +27,8 @@ fn note_use(users: &mut Users, ledger: &Ledger, act: &Act, item: u32)
             value: _,
         } => {
             if *used == item {
-                if let Some(place) = ledger.find(*job) {
-                    users.readers = with(users.readers, place);
+                if let Some(node) = ledger.find(*job) {
+                    users.readers = with(users.readers, node);
                 }
             }
         }
@@ -38,8 +38,8 @@ fn note_use(users: &mut Users, ledger: &Ledger, act: &Act, item: u32)
             value: _,
         } => {
             if *used == item {
-                if let Some(place) = ledger.find(*job) {
-                    users.writers = with(users.writers, place);
+                if let Some(node) = ledger.find(*job) {
+                    users.writers = with(users.writers, node);
                 }
             }
         }
@@ -90,12 +90,12 @@ fn read(
     requires { ⌜ (index ≤ length (now steps)) × Keeps (acts (take index (now steps))) (now ledger) ⌝ }
     ensures { λ r. ⌜ ((value : ℕ) → Takes (acts (take index (now (steps .entry)))) (Read job item value) index r (now (ledger .exit))) ⌝ }
 {
-    let Some(place) = ledger.find_open(job) else {
+    let Some(node) = ledger.find_open(job) else {
         return Err(JudgeRefusal::OutOfTurn { index });
     };
     let users = users(ledger, steps, index, item);
-    ledger.draw(place, users.before_read());
-    ledger.note_read(item, place);
+    ledger.draw(node, users.before_read());
+    ledger.note_read(item, node);
     Ok(())
 }
 
@@ -110,12 +110,12 @@ fn write(
     requires { ⌜ (index ≤ length (now steps)) × Keeps (acts (take index (now steps))) (now ledger) ⌝ }
     ensures { λ r. ⌜ ((value : ℕ) → Takes (acts (take index (now (steps .entry)))) (Write job item value) index r (now (ledger .exit))) ⌝ }
 {
-    let Some(place) = ledger.find_open(job) else {
+    let Some(node) = ledger.find_open(job) else {
         return Err(JudgeRefusal::OutOfTurn { index });
     };
     let users = users(ledger, steps, index, item);
-    ledger.draw(place, users.before_write());
-    ledger.note_write(item, place);
+    ledger.draw(node, users.before_write());
+    ledger.note_write(item, node);
     Ok(())
 }
 
@@ -139,10 +139,10 @@ fn commit(ledger: &mut Ledger, index: usize, job: u32) -> Result<(), JudgeRefusa
     requires { ⌜ now ledger .count ≤ 64 ⌝ }
     ensures { λ r. ⌜ ((H : List Act) → Keeps H (now (ledger .entry)) → Takes H (Commit job) index r (now (ledger .exit))) ⌝ }
 {
-    let Some(place) = ledger.find_open(job) else {
+    let Some(node) = ledger.find_open(job) else {
         return Err(JudgeRefusal::OutOfTurn { index });
     };
-    ledger.end(place);
+    ledger.end(node);
     Ok(())
 }
 
@@ -151,10 +151,10 @@ fn abort(ledger: &mut Ledger, index: usize, job: u32) -> Result<(), JudgeRefusal
     requires { ⌜ now ledger .count ≤ 64 ⌝ }
     ensures { λ r. ⌜ ((H : List Act) → Keeps H (now (ledger .entry)) → Takes H (Abort job) index r (now (ledger .exit))) ⌝ }
 {
-    let Some(place) = ledger.find_open(job) else {
+    let Some(node) = ledger.find_open(job) else {
         return Err(JudgeRefusal::OutOfTurn { index });
     };
-    ledger.strike(place);
+    ledger.strike(node);
     Ok(())
 }
 
@@ -183,7 +183,7 @@ fn follow(ledger: &mut Ledger, steps: &[Step], index: usize) -> Result<(), Judge
 }
 
 // The ledger of all steps, or why they are not judged.
-pub fn read_steps(steps: &[Step]) -> Result<Ledger, JudgeRefusal>
+pub(crate) fn read_steps(steps: &[Step]) -> Result<Ledger, JudgeRefusal>
     ensures { λ r. ⌜ ReadsSteps (acts (now (steps .entry))) r ⌝ }
 {
     let mut ledger = Ledger::new();

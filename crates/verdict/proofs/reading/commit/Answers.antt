@@ -9,5 +9,5 @@ pub returns : need.returns
 returns c H k =
     let l = c .args .ledger .now in
     let f = c .in-Some .ensures tt in
-    let r = runs-there H l k (c .args .job) (c .in-Some .place) f in
-    (r, tt, keeps-commit H l (c .end .last .self) (c .in-Some .place) (c .args .job) k (f .0) (f .1) r (c .end .ensures))
+    let r = runs-there H l k (c .args .job) (c .in-Some .node) f in
+    (r, tt, keeps-commit H l (c .end .last .self) (c .in-Some .node) (c .args .job) k (f .0) (f .1) r (c .end .ensures))

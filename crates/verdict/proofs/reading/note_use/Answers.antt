@@ -10,9 +10,9 @@ returns-in-Some c =
     let at = c .in-Some .ensures tt in
     subst (Noted l (c .args .item) (c .args .users .now) _) (sym (c .in-Read .is))
     (users-read l (c .args .item) (c .args .users .now) (record { readers = c .with-users .result; writers = c .args .users .now .writers })
-    (c .in-Some .place) (c .in-Read .job) (c .in-Read .used) (c .in-Read .value)
+    (c .in-Some .node) (c .in-Read .job) (c .in-Read .used) (c .in-Read .value)
     (distinct-apart l (c .pre .0) (c .pre .2) (c .pre .1)) (at .0) (at .1) (c .if-used-item .taken)
-    (with-small (c .args .users .now .readers) (c .with-users .result) (c .in-Some .place) (omega (arith, at .0, c .pre .0)) (c .with-users .ensures)) refl)
+    (with-small (c .args .users .now .readers) (c .with-users .result) (c .in-Some .node) (omega (arith, at .0, c .pre .0)) (c .with-users .ensures)) refl)
 
 pub returns-in-rest : need.returns-in-rest
 returns-in-rest c =
@@ -34,9 +34,9 @@ returns-in-Some-find c =
     let at = c .in-Some-find .ensures tt in
     subst (Noted l (c .args .item) (c .args .users .now) _) (sym (c .in-Write .is))
     (users-write l (c .args .item) (c .args .users .now) (record { readers = c .args .users .now .readers; writers = c .with-users-in-Some-find .result })
-    (c .in-Some-find .place) (c .in-Write .job) (c .in-Write .used) (c .in-Write .value)
+    (c .in-Some-find .node) (c .in-Write .job) (c .in-Write .used) (c .in-Write .value)
     (distinct-apart l (c .pre .0) (c .pre .2) (c .pre .1)) (at .0) (at .1) (c .if-used-item-2 .taken)
-    (with-small (c .args .users .now .writers) (c .with-users-in-Some-find .result) (c .in-Some-find .place) (omega (arith, at .0, c .pre .0)) (c .with-users-in-Some-find .ensures)) refl)
+    (with-small (c .args .users .now .writers) (c .with-users-in-Some-find .result) (c .in-Some-find .node) (omega (arith, at .0, c .pre .0)) (c .with-users-in-Some-find .ensures)) refl)
 
 pub returns-in-rest-find : need.returns-in-rest-find
 returns-in-rest-find c =

@@ -10,7 +10,7 @@ returns-then-item-lt64 c = record {
   kept = refl;
   into = refl;
   writers = refl;
-  readers = table-set (c .args .self .now .readers) (c .add .last .table) (c .args .item) (c .args .place) (c .add .ensures .set) (c .add .ensures .here);
+  readers = table-set (c .args .self .now .readers) (c .add .last .table) (c .args .item) (c .args .node) (c .add .ensures .set) (c .add .ensures .here);
 }
 
 pub returns-else-item-lt64 : need.returns-else-item-lt64
@@ -21,5 +21,5 @@ returns-else-item-lt64 c = record {
   kept = refl;
   into = refl;
   writers = refl;
-  readers = table-same (c .args .self .now .readers) (c .args .item) (c .args .place) (c .if-item-lt64 .left);
+  readers = table-same (c .args .self .now .readers) (c .args .item) (c .args .node) (c .if-item-lt64 .left);
 }

@@ -10,7 +10,7 @@ returns-then-item-lt64 c = record {
   kept = refl;
   into = refl;
   readers = refl;
-  writers = table-set (c .args .self .now .writers) (c .add .last .table) (c .args .item) (c .args .place) (c .add .ensures .set) (c .add .ensures .here);
+  writers = table-set (c .args .self .now .writers) (c .add .last .table) (c .args .item) (c .args .node) (c .add .ensures .set) (c .add .ensures .here);
 }
 
 pub returns-else-item-lt64 : need.returns-else-item-lt64
@@ -21,5 +21,5 @@ returns-else-item-lt64 c = record {
   kept = refl;
   into = refl;
   readers = refl;
-  writers = table-same (c .args .self .now .writers) (c .args .item) (c .args .place) (c .if-item-lt64 .left);
+  writers = table-same (c .args .self .now .writers) (c .args .item) (c .args .node) (c .if-item-lt64 .left);
 }
