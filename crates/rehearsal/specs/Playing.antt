@@ -4,15 +4,20 @@ use mathlib.Core.Path.{_≡_}
 use mathlib.Core.List.{List, [], _∷_, _++_}
 use Prim.Native.Nat.{ℕ}
 use lib.ListN.{length, replicate}
+use Rattle.std.specs.declared.option.Option.{Option}
+use Rattle.std.specs.declared.option.Option.the-variants.{Some, None}
 use Rattle.trace.specs.declared.act.Act.{Act}
 use Rattle.trace.specs.declared.act.Act.the-variants.{Open, Read, Write, Commit, Abort, Peek, Retire}
 use Rattle.trace.specs.declared.act.Step.{Step}
+use Rattle.trace.specs.declared.fault.ReadRefusal.{ReadRefusal}
+use Rattle.console.specs.Inputs.{read as read-input, steps-of}
 use Rattle.history.specs.Machine.{State, made, Call, begin, read, write, commit, abort, retire, peek, Answer, answered, done, wrote, refused, answer, after-call, Steps}
 use Rattle.history.specs.Runs.{Turn, Runs, acts-of, retired-by, retired-of}
 use Rattle.history.specs.Promises.{Serializable}
 use Rattle.rehearsal.specs.declared.line.Outcome.{Outcome}
 use Rattle.rehearsal.specs.declared.line.Outcome.the-variants.{Number, Done, Count, Retired, Refused}
 use Rattle.rehearsal.specs.declared.line.Line.{Line}
+use Rattle.rehearsal.specs.Texts.{refusal-line}
 
 -- the call of an act: the hub gives the job's number and the value read, and a retire is lent 32 places
 abbrev pub call-of : Act → Call
@@ -99,3 +104,12 @@ pub record Rehearsed (steps : List Step) (lines : List Line) : Type 0 where
   pub tell : lines ≡ lines-of steps (run-of steps)
   -- what is promised of every run holds of it
   pub serializable : Serializable zeros (acts-of (run-of steps)) (retired-of (run-of steps)) ending
+
+-- steps that were read to the end are rehearsed; else one line tells why they were not
+abbrev pub RehearsedUnless : Option ReadRefusal → List Step → List Line → Type 0
+RehearsedUnless None steps lines = Rehearsed steps lines
+RehearsedUnless (Some why) steps lines = lines ≡ refusal-line why ∷ []
+
+-- these are the lines of the trace in an input
+abbrev pub RehearsedInput : List ℕ → List Line → Type 0
+RehearsedInput bytes lines = RehearsedUnless (read-input bytes .stop) (steps-of (read-input bytes)) lines

@@ -18,6 +18,15 @@ use Rattle.rehearsal.specs.declared.line.AnswerColumn.{AnswerColumn}
 use Rattle.rehearsal.specs.declared.line.AnswerColumn.the-variants.{Code, RetiredMark}
 use Rattle.rehearsal.specs.declared.line.DetailColumn.{DetailColumn}
 
+-- the number of the line that the reader refused
+abbrev pub refused-line : ReadRefusal → ℕ
+refused-line (FaultyLine fault) = fault .place .line
+refused-line (Full line) = line
+
+-- the line that tells why a trace was not read
+abbrev pub refusal-line : ReadRefusal → Line
+refusal-line why = record { number = refused-line why; outcome = NotRead why }
+
 -- 0 where the call was granted, else the refusal's number; a retired job has its mark
 abbrev pub answer-column : Outcome → AnswerColumn
 answer-column (Number n) = Code 0

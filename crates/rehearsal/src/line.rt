@@ -1,7 +1,7 @@
 // The lines of a rehearsal: what is told of each answer.
 ghost use mathlib.Core.Path.{_≡_};
 ghost use Rattle.std.specs.declared.option.Option.the-variants.{Some, None};
-ghost use Rattle.rehearsal.specs.Texts.{answer-column, detail-column, answer-text, detail-text, line-text};
+ghost use Rattle.rehearsal.specs.Texts.{answer-column, detail-column, answer-text, detail-text, line-text, refusal-line};
 use history::refusal::Refusal;
 use history::refusal::RefusalDebug;
 use history::refusal::RefusalPartialEq;
@@ -32,6 +32,21 @@ pub enum Outcome {
 pub struct Line {
     pub number: usize,
     pub outcome: Outcome,
+}
+
+// The line that tells why a trace was not read. It has the number of the line that was refused, or 0 where
+// the whole input was.
+pub fn not_read(refusal: ReadRefusal) -> Line
+    ensures { λ r. ⌜ r ≡ refusal-line refusal ⌝ }
+{
+    let number = match refusal {
+        ReadRefusal::Line(fault) => fault.place.line,
+        ReadRefusal::Full { line } => line,
+    };
+    Line {
+        number,
+        outcome: Outcome::NotRead(refusal),
+    }
 }
 
 // The second column: 0 or the number of a refusal, or the mark of a retired job.

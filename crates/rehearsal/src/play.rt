@@ -4,9 +4,12 @@ ghost use Rattle.std.specs.Of.Vec.{vec-items};
 ghost use Rattle.std.specs.Vec.{made};
 ghost use Rattle.scheduler.specs.Cores.{machine};
 ghost use Rattle.store.specs.Memories.{memory-values, memory-room};
-ghost use Rattle.rehearsal.specs.Playing.{Played, Rehearsed};
+ghost use Rattle.rehearsal.specs.Playing.{Played, Rehearsed, RehearsedInput};
 use crate::line::Line;
+use crate::line::not_read;
 use crate::turn::take_turn;
+use console::input::Trace;
+use console::input::read_steps;
 use hub::Hub;
 use std::alloc::AllocError;
 use std::alloc::Global;
@@ -37,4 +40,19 @@ pub fn rehearse(heap: Global, steps: &[Step]) -> Result<Vec<Line>, AllocError>
     let mut lines = Vec::new(heap);
     play(&mut hub, steps, &mut lines)?;
     Ok(lines)
+}
+
+// Plays the trace in an input, as `rehearse` plays its steps. Where the reader refuses the trace nothing is
+// played, and one line tells why.
+pub fn rehearse_input(heap: Global, bytes: &[u8]) -> Result<Vec<Line>, AllocError>
+    ensures { λ r. ⌜ made r (λ lines. RehearsedInput (now (bytes .entry)) (vec-items lines)) ⌝ }
+{
+    match read_steps(heap, bytes)? {
+        Trace::Steps(steps) => rehearse(heap, &steps),
+        Trace::Refused(refusal) => {
+            let mut lines = Vec::new(heap);
+            lines.push(not_read(refusal))?;
+            Ok(lines)
+        }
+    }
 }
