@@ -29,14 +29,16 @@ no-value v e = let z : _≡_ {A = ℕ} 0 1 = cc in absurd (omega arith)
 value-held : (j : ℕ) (h : Option Holding) (v : ℕ) → value-of j h ≡ Some v → (holds j h ≡ true) × (held-value h 0 ≡ v)
 value-held j None v e = no-value v e
 value-held j (Some h) v e = elim (cases-bool (eqb (h .job) j)) [
-    inl mine ↦ (mine, (let f : Some (h .value) ≡ Some v = sym (ap (λ b. cond b (Some (h .value)) None) mine) ∙ e in cc))
-  | inr other ↦ no-value v (sym (ap (λ b. cond b (Some (h .value)) None) other) ∙ e) ]
+  | inl mine ↦ (mine, (let f : Some (h .value) ≡ Some v = sym (ap (λ b. cond b (Some (h .value)) None) mine) ∙ e in cc))
+  | inr other ↦ no-value v (sym (ap (λ b. cond b (Some (h .value)) None) other) ∙ e)
+]
 
 value-none : (j : ℕ) (h : Option Holding) → value-of j h ≡ None → holds j h ≡ false
 value-none j None e = refl
 value-none j (Some h) e = elim (cases-bool (eqb (h .job) j)) [
-    inl mine ↦ no-value (h .value) (sym e ∙ ap (λ b. cond b (Some (h .value)) None) mine)
-  | inr other ↦ other ]
+  | inl mine ↦ no-value (h .value) (sym e ∙ ap (λ b. cond b (Some (h .value)) None) mine)
+  | inr other ↦ other
+]
 
 put-all-more : (held : ℕ → Option Holding) (xs : List ℕ) (x : ℕ) (values : List ℕ) → put-all held (xs ++ x ∷ []) values ≡ set (put-all held xs values) x (held-value (held x) 0)
 unfolding put-all
@@ -59,8 +61,9 @@ module _ (held : ℕ → Option Holding) (j : ℕ) where
 
   below-rises : (n : ℕ) → length (held-below held j n) ≤ length (held-below held j (n + 1))
   below-rises n = elim (cases-bool (holds j (held n))) [
-      inl e ↦ (let f = ap length (below-in n e) ∙ length-append (held-below held j n) (n ∷ []) in omega arith)
-    | inr e ↦ (let f = ap length (below-out n e) in omega arith) ]
+    | inl e ↦ (let f = ap length (below-in n e) ∙ length-append (held-below held j n) (n ∷ []) in omega arith)
+    | inr e ↦ (let f = ap length (below-out n e) in omega arith)
+  ]
 
   below-more : (n m : ℕ) → length (held-below held j n) ≤ length (held-below held j (n + m))
   below-more n zero = let e : n ≡ n + 0 = omega arith in let f = ap (λ k. length (held-below held j k)) e in omega arith
@@ -126,8 +129,7 @@ holdings-below s j n e = ap (λ k. length (those (λ x. holds j (s .held x)) (ri
 pub put-below-all : (s : State) (j n : ℕ) (values : List ℕ) (room : ℕ) → n ≡ min 64 (length (s .values)) → PutBelow (s .held) j n (s .values) (s .room) values room → PutAll s j values room
 unfolding held-below holdings
 put-below-all s j n values room e p =
-    let f = ap (λ k. those (λ x. holds j (s .held x)) (rising 0 k)) e in
-    (
+    let f = ap (λ k. those (λ x. holds j (s .held x)) (rising 0 k)) e in (
       p .put ∙ ap (λ l. put-all (s .held) l (s .values)) f,
       (let g = ap length f in omega (arith, p .takes)),
       λ z. p .keeps (ap length f ∙ z),

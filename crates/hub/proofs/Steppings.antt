@@ -20,7 +20,7 @@ use Rattle.scheduler.specs.Cores.{machine, Ends}
 use Rattle.scheduler.specs.declared.core.Core.{Core}
 use Rattle.scheduler.specs.Reading.{state}
 use Rattle.scheduler.proofs.States.{steps-refused, steps-granted}
-use Rattle.hub.specs.Putting.{PutAll}
+use Rattle.hub.specs.Putting.{PutAll, LeavesIfRefused}
 
 no-value : {X : Type 0} (v : ℕ) → _≡_ {A = Option ℕ} None (Some v) → X
 no-value v e = let z : _≡_ {A = ℕ} 0 1 = cc in absurd (omega arith)
@@ -29,13 +29,15 @@ no-value v e = let z : _≡_ {A = ℕ} 0 1 = cc in absurd (omega arith)
 
 pub at-some : (values : List ℕ) (x v : ℕ) → Some v ≡ at values x → (x < length values) × (v ≡ getD values x 0)
 at-some values x v e = elim (cases-lt x (length values)) [
-    inl low ↦ (low, (let f : Some v ≡ Some (getD values x 0) = e ∙ ap (λ b. cond b (Some (getD values x 0)) None) (lt-ltb x (length values) low) in cc))
-  | inr high ↦ no-value v (sym (e ∙ ap (λ b. cond b (Some (getD values x 0)) None) (le-ltb x (length values) high))) ]
+  | inl low ↦ (low, (let f : Some v ≡ Some (getD values x 0) = e ∙ ap (λ b. cond b (Some (getD values x 0)) None) (lt-ltb x (length values) low) in cc))
+  | inr high ↦ no-value v (sym (e ∙ ap (λ b. cond b (Some (getD values x 0)) None) (le-ltb x (length values) high)))
+]
 
 pub at-none : (values : List ℕ) (x : ℕ) → None ≡ at values x → length values ≤ x
 at-none values x e = elim (cases-lt x (length values)) [
-    inl low ↦ no-value (getD values x 0) (e ∙ ap (λ b. cond b (Some (getD values x 0)) None) (lt-ltb x (length values) low))
-  | inr high ↦ high ]
+  | inl low ↦ no-value (getD values x 0) (e ∙ ap (λ b. cond b (Some (getD values x 0)) None) (lt-ltb x (length values) low))
+  | inr high ↦ high
+]
 
 module _ (s : State) (x : ℕ) where
   pub peek-refused : min 64 (length (s .values)) ≤ x → Steps s (peek x) (refused ItemNotServed) s
@@ -79,6 +81,15 @@ commit-ends core core′ j n values values′ room room′ running is enough put
     commit-granted s j n running is enough (machine core′ values′ room′)
     (ap (λ vs. machine core′ vs room′) (puts .0) ∙ ends values room room′ .1) (puts .1) (puts .2)
 commit-ends core core′ j n values values′ room room′ running is enough puts (Err r) ends =
+    let z : _≡_ {A = Option Refusal} None (Some r) = sym running ∙ ends .1 values room in
+    let y : _≡_ {A = ℕ} 0 1 = cc in
+    absurd (omega arith)
+
+-- it is granted, since the job still runs
+pub commit-not-refused : {A S : Type 0} (core core′ : Core) (j : ℕ) (values : List ℕ) (room : ℕ) (before after : S) → not-running (machine core values room .status j) ≡ None → (r : Result A Refusal) → Ends core j r core′ → LeavesIfRefused r before after
+unfolding state
+commit-not-refused core core′ j values room before after running (Ok u) ends = tt
+commit-not-refused core core′ j values room before after running (Err r) ends =
     let z : _≡_ {A = Option Refusal} None (Some r) = sym running ∙ ends .1 values room in
     let y : _≡_ {A = ℕ} 0 1 = cc in
     absurd (omega arith)

@@ -3,6 +3,7 @@ ghost use mathlib.Core.Path.{_≡_};
 ghost use Rattle.history.specs.Machine.{made, Opens, Reads, Writes, Commits, Aborts, Retires, Peeks};
 ghost use Rattle.history.specs.Promises.{EveryRunFrom};
 ghost use Rattle.scheduler.specs.Cores.{machine};
+ghost use Rattle.hub.specs.Putting.{LeavesIfRefused};
 use super::putting::put_held;
 use history::refusal::Refusal;
 use scheduler::core::Core;
@@ -66,9 +67,11 @@ impl<S: Store> Hub<S> {
     }
 
     // Commits a job: what it holds goes into the store, smaller items first. Refused unless the job runs and
-    // the store has room for every item that it holds; the job then runs on.
+    // the store has room for every item that it holds; the job then runs on. A refusal leaves the store as
+    // it was, down to the memory that it is made of.
     pub fn commit(&mut self, job: u32) -> Result<(), Refusal>
-        ensures { λ r. ⌜ Commits (machine (now (self .entry) .core) (S·Store .values (now (self .entry) .store)) (S·Store .room (now (self .entry) .store))) job r (machine (now (self .exit) .core) (S·Store .values (now (self .exit) .store)) (S·Store .room (now (self .exit) .store))) ⌝ }
+        ensures commits { λ r. ⌜ Commits (machine (now (self .entry) .core) (S·Store .values (now (self .entry) .store)) (S·Store .room (now (self .entry) .store))) job r (machine (now (self .exit) .core) (S·Store .values (now (self .exit) .store)) (S·Store .room (now (self .exit) .store))) ⌝ }
+        ensures refused { λ r. ⌜ LeavesIfRefused r (now (self .entry) .store) (now (self .exit) .store) ⌝ }
     {
         let items = self.store.items();
         let held = self.core.count_held(items, job)?;

@@ -25,16 +25,17 @@ loop-item-again g c =
     let inside : c .args .served ≤ length values₀ = omega (arith, c .pre .0) in
     let enough : length (held-below held (c .args .job) (c .args .served)) ≤ room₀ = omega (arith, holdings-below (machine (c .args .core .now) values₀ room₀) (c .args .job) (c .args .served) (c .pre .0), c .pre .1) in
     elim (c .match-held-by .came) [
-      in-Some w ↦
-        (let v = w .in-Some .value in
-        let e = sym (w .in-Some .ensures tt) in
-        let values = s .values (c .loop-item .store) in
-        let room = s .room (c .loop-item .store) in
-        let put = put-granted values _ room _ n v (w .put .result) (w .put .ensures)
-            (put-inside held (c .args .job) values₀ room₀ n values room (c .loop-item .inv) v (c .args .served) e (omega arith) inside enough)
-            (put-has-room held (c .args .job) values₀ room₀ n values room (c .loop-item .inv) v (c .args .served) e (omega arith) inside enough) in
-        rw (w .store-is) (put-one held (c .args .job) values₀ room₀ n values room (c .loop-item .inv) v (c .args .served) e (omega arith) inside enough _ _ (put .1) (put .2)))
-    | in-None w ↦ rw (w .store-is) (put-past held (c .args .job) values₀ room₀ n _ _ (c .loop-item .inv) (sym (w .in-None .ensures tt))) ]
+      | in-Some w ↦
+          (let v = w .in-Some .value in
+          let e = sym (w .in-Some .ensures tt) in
+          let values = s .values (c .loop-item .store) in
+          let room = s .room (c .loop-item .store) in
+          let put = put-granted values _ room _ n v (w .put .result) (w .put .ensures)
+          (put-inside held (c .args .job) values₀ room₀ n values room (c .loop-item .inv) v (c .args .served) e (omega arith) inside enough)
+          (put-has-room held (c .args .job) values₀ room₀ n values room (c .loop-item .inv) v (c .args .served) e (omega arith) inside enough) in
+          rw (w .store-is) (put-one held (c .args .job) values₀ room₀ n values room (c .loop-item .inv) v (c .args .served) e (omega arith) inside enough _ _ (put .1) (put .2)))
+      | in-None w ↦ rw (w .store-is) (put-past held (c .args .job) values₀ room₀ n _ _ (c .loop-item .inv) (sym (w .in-None .ensures tt)))
+    ]
 
 pub returns : need.returns
 unfolding state
