@@ -45,12 +45,13 @@ steps-read bytes lent list old items count len a b d e l i =
     let room : length lent ≡ 1024 = a ∙ d in
     let told : Ok count ≡ answer (read bytes) = subst (λ (z : ℕ). Ok count ≡ answer (reading-of-input bytes z)) room e in
     let kept : list ≡ list-after lent (read bytes) = subst (λ (z : ℕ). list ≡ list-after lent (reading-of-input bytes z)) room l in
-    let o = ok-answered (length (read bytes .acts)) count (read bytes .stop) told in
-    (o .0,
-     i
-     ∙ ap (λ (z : List Step). take count z) (take-at list (drop (length list) old) len b)
-     ∙ ap (λ (z : ℕ). take z list) (o .1)
-     ∙ front-read (read bytes) lent list kept)
+    let o = ok-answered (length (read bytes .acts)) count (read bytes .stop) told in (
+      o .0,
+      i
+          ∙ ap (λ (z : List Step). take count z) (take-at list (drop (length list) old) len b)
+          ∙ ap (λ (z : ℕ). take z list) (o .1)
+          ∙ front-read (read bytes) lent list kept,
+    )
 
 pub refusal-read : (bytes : List ℕ) (lent : List Step) (why : ReadRefusal) → length lent ≡ 1024
     → Err why ≡ answer (reading-of-input bytes (length lent)) → read bytes .stop ≡ Some why

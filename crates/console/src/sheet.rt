@@ -22,7 +22,11 @@ fn add<T: Display>(text: &mut String, line: &T) -> Result<(), AllocError>
 
 // The header and the lines below it, each with its line end, as one text. It fails only for want of
 // memory.
-pub fn write_sheet<T: Display>(heap: Global, header: &str, lines: &[T]) -> Result<String, AllocError>
+pub fn write_sheet<T: Display>(
+    heap: Global,
+    header: &str,
+    lines: &[T],
+) -> Result<String, AllocError>
     ensures { λ r. ⌜ made r (λ text. ((show : T → List ℕ) → Shown (T·Display .shown) show → string-bytes text ≡ sheet-text show (now (header .entry)) (now (lines .entry)))) ⌝ }
 {
     let mut text = String::new(heap);

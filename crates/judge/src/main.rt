@@ -3,10 +3,10 @@
 ghost use Rattle.std.specs.Of.String.{string-bytes};
 ghost use Rattle.std.specs.Vec.{made};
 ghost use Rattle.judge.specs.Prints.{Prints};
-use console::input::read_front;
-use console::sheet::write_sheet;
 use crate::line::LineDisplay;
 use crate::list::judge_input;
+use console::input::read_front;
+use console::sheet::write_sheet;
 use std::alloc::AllocError;
 use std::alloc::Global;
 use std::io;

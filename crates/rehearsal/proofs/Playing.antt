@@ -37,21 +37,21 @@ going-turn s steps before h t step rest lines lines′ e q go =
     let c = call-of (step .act) in
     let u : Turn = record { call = c; answer = answer h c } in
     let moved : run-from (after-call h c plenty) (calls-of rest) ≡ run-from t (calls-of rest) =
-      ap (λ (z : State). run-from z (calls-of rest)) (sym (next-state h t c (q .told) (q .steps) e)) in
+    ap (λ (z : State). run-from z (calls-of rest)) (sym (next-state h t c (q .told) (q .steps) e)) in
     let said : lines′ ≡ lines ++ answer-lines (step .line) (answer h c) =
-      q .lines ∙ ap (λ (a : Answer). lines ++ answer-lines (step .line) a) (q .steps .answers) in
+    q .lines ∙ ap (λ (a : Answer). lines ++ answer-lines (step .line) a) (q .steps .answers) in
     record {
       made = go .made ++ u ∷ [];
       runs = runs-more (go .made) s h t u (go .runs) (subst (λ (a : Answer). Steps h c a t) (q .steps .answers) (q .steps));
       left =
-        append-assoc (go .made) (u ∷ []) (run-from t (calls-of rest))
-        ∙ ap (λ (z : List Turn). go .made ++ (u ∷ z)) (sym moved)
-        ∙ go .left;
+          append-assoc (go .made) (u ∷ []) (run-from t (calls-of rest))
+          ∙ ap (λ (z : List Turn). go .made ++ (u ∷ z)) (sym moved)
+          ∙ go .left;
       told =
-        ap (λ (z : List Line). z ++ lines-of rest (run-from t (calls-of rest))) said
-        ∙ append-assoc lines (answer-lines (step .line) (answer h c)) (lines-of rest (run-from t (calls-of rest)))
-        ∙ ap (λ (z : List Turn). lines ++ (answer-lines (step .line) (answer h c) ++ lines-of rest z)) (sym moved)
-        ∙ go .told;
+          ap (λ (z : List Line). z ++ lines-of rest (run-from t (calls-of rest))) said
+          ∙ append-assoc lines (answer-lines (step .line) (answer h c)) (lines-of rest (run-from t (calls-of rest)))
+          ∙ ap (λ (z : List Turn). lines ++ (answer-lines (step .line) (answer h c) ++ lines-of rest z)) (sym moved)
+          ∙ go .told;
     }
 
 pub going-end : (s : State) (steps : List Step) (before : List Line) (h : State) (lines : List Line)

@@ -46,8 +46,8 @@ retire-told s t step lent left count before between after a n (js, q, e, w) p r 
       told = wrote js;
       steps = subst (λ (c : Call). Steps s c (wrote js) t) called q;
       lines = r
-        ∙ ap (λ (z : List ℕ). between ++ retired-lines (step .line) z) written
-        ∙ ap (λ (z : List Line). z ++ retired-lines (step .line) js) p
-        ∙ append-assoc before ((record { number = step .line; outcome = Count count }) ∷ []) (retired-lines (step .line) js)
-        ∙ ap (λ (k : ℕ). before ++ ((record { number = step .line; outcome = Count k }) ∷ retired-lines (step .line) js)) e;
+          ∙ ap (λ (z : List ℕ). between ++ retired-lines (step .line) z) written
+          ∙ ap (λ (z : List Line). z ++ retired-lines (step .line) js) p
+          ∙ append-assoc before ((record { number = step .line; outcome = Count count }) ∷ []) (retired-lines (step .line) js)
+          ∙ ap (λ (k : ℕ). before ++ ((record { number = step .line; outcome = Count k }) ∷ retired-lines (step .line) js)) e;
     }

@@ -66,7 +66,11 @@ fn retire<S: Store>(hub: &mut Hub<S>, step: &Step, lines: &mut Vec<Line>) -> Res
 }
 
 // Makes the call of a step, and tells the answer.
-pub(crate) fn take_turn<S: Store>(hub: &mut Hub<S>, step: &Step, lines: &mut Vec<Line>) -> Result<(), AllocError>
+pub(crate) fn take_turn<S: Store>(
+    hub: &mut Hub<S>,
+    step: &Step,
+    lines: &mut Vec<Line>,
+) -> Result<(), AllocError>
     ensures { λ r. ⌜ made r (λ _. Answered (machine (now (hub .entry) .core) (S·Store .values (now (hub .entry) .store)) (S·Store .room (now (hub .entry) .store))) (now (step .entry)) (vec-items (now (lines .entry))) (machine (now (hub .exit) .core) (S·Store .values (now (hub .exit) .store)) (S·Store .room (now (hub .exit) .store))) (vec-items (now (lines .exit)))) ⌝ }
 {
     let outcome = match step.act {

@@ -11,8 +11,9 @@ use Rattle.judge.proofs.answer.Needs as need
 pub returns : need.returns
 returns c =
     made-weaker (c .write-sheet .result) _ _
-    (λ text told.
-      (vec-items (c .in-Continue-lines .lines),
-       c .in-Continue-lines .ensures tt,
-       told line-text (λ l. refl) ∙ ap (λ (z : List Line). sheet-text line-text (codes "verdict,count") z) (c .deref .ensures .value)))
+    (λ text told. (
+      vec-items (c .in-Continue-lines .lines),
+      c .in-Continue-lines .ensures tt,
+      told line-text (λ l. refl) ∙ ap (λ (z : List Line). sheet-text line-text (codes "verdict,count") z) (c .deref .ensures .value),
+    ))
     (c .write-sheet .ensures)
