@@ -1,7 +1,7 @@
 -- A serial order exists exactly where the conflict graph has no cycle, and so does a serial arrangement
 -- that is conflict equivalent. Assumes nothing.
 use Rattle.std.proofs.Common.{◌≡◌, ℕ, suc, ◌<◌, ◌≤◌, max, Bool, true, false, cond, not, ◌&&◌, ◌||◌, T, eqb, ◌⊎◌, ◌↔◌, List, [], ◌∷◌, sym, refl, ap, ◌∙◌, subst, inl, inr, arith}
-use Rattle.std.proofs.lemmas.Bool.{cases_lt, eqb-true, eq-eqb, eqb-false, ne_eqb, and_parts, and_from, or_cases, or_left, or_right, not_true, not_from_false}
+use Rattle.std.proofs.lemmas.Bool.{cases_lt, eqb-true, eq-eqb, eqb-false, ne_eqb, and_parts, and_from, or_cases, or_left, or_right, not-true, not_from_false}
 use Rattle.trace.specs.declared.act.Act.{Act}
 use Rattle.trace.specs.declared.act.Act.TheVariants.{Open, Read, Write, Commit, Abort, Peek, Retire}
 use Rattle.graph.proofs.Paths.{path_map}
@@ -29,7 +29,7 @@ unfolding conflicts
 tested_conflict a b e =
     let p = and_parts (not (eqb a.job b.job)) _ e in
     let q = and_parts (eqb a.item b.item) _ p.1 in
-    (eqb-false a.job b.job (not_true _ p.0), eqb-true a.item b.item q.0, true_T _ q.1)
+    (eqb-false a.job b.job (not-true _ p.0), eqb-true a.item b.item q.0, true_T _ q.1)
 
 meets : Access → ℕ → List Access → Bool
 meets a j [] = false

@@ -30,9 +30,9 @@ committed_status Status.absent e = true_not_false false e refl
 committed_status Status.running e = true_not_false false e refl
 committed_status Status.committed e = refl
 
-not_true : (b : Bool) → not b ≡ true → b ≡ false
-not_true true e = true_not_false false e refl
-not_true false e = refl
+not-true : (b : Bool) → not b ≡ true → b ≡ false
+not-true true e = true_not_false false e refl
+not-true false e = refl
 
 -- what may retire is committed, and no present job leads into it
 pub retirable_means : (st : State) (j : ℕ) → j ∈ retirable st
@@ -45,7 +45,7 @@ retirable_means st j h =
       committed_status (st.status j) p.0,
       λ i k e.
           true_not_false (any (λ k. st.edges k j) (jobs st)) (true_any (λ k. st.edges k j) i (jobs st) k e)
-          (not_true (any (λ k. st.edges k j) (jobs st)) p.1),
+          (not-true (any (λ k. st.edges k j) (jobs st)) p.1),
     )
 
 pub retiring_none : (n : ℕ) (st : State) → retirable st ≡ [] → retiring (suc n) st ≡ []

@@ -1,6 +1,6 @@
 -- A job that gets the first free slot and the next number. Assumes nothing.
 use Rattle.std.proofs.Common.{◌≡◌, ℕ, suc, ◌+◌, ◌<◌, ◌≤◌, Bool, true, false, cond, not, ◌&&◌, ◌||◌, eqb, ltb, leb, ◌≢◌, ◌⊎◌, List, length, get_or, set, Some, None, sym, refl, ap, ◌∙◌, subst, inl, inr, ⊎_elim, add-one, arith}
-use Rattle.std.proofs.lemmas.Bool.{cases_Bool, cases_eq, cases_lt, eqb-true, eq-eqb, ne_eqb, both_ways, true≢false, not_true, le-ltb, lt-leb, le-leb}
+use Rattle.std.proofs.lemmas.Bool.{cases_Bool, cases_eq, cases_lt, eqb-true, eq-eqb, ne_eqb, both_ways, true≢false, not-true, le-ltb, lt-leb, le-leb}
 use Rattle.std.proofs.lemmas.List.{get_or_past, get_or-set_same, get_or-set_other, length-set}
 use Rattle.graph.specs.Nodes.{has}
 use Rattle.history.specs.declared.refusal.Refusal.{Refusal}
@@ -30,7 +30,7 @@ with_job t k = record {
 
 module _ (t : Tables) (sound : Sound t) (k : ℕ) (is : k ≡ first is_free t.jobs.slots) (within : k < 32) where
   k_free : taken (slot t.jobs.slots k).status ≡ false
-  k_free = not_true _ (subst (λ n. is_free (slot t.jobs.slots n) ≡ true) (sym is) (first_passes is_free t.jobs.slots (omega (arith, sound.0.0))))
+  k_free = not-true _ (subst (λ n. is_free (slot t.jobs.slots n) ≡ true) (sym is) (first_passes is_free t.jobs.slots (omega (arith, sound.0.0))))
 
   slots' : List Slot
   slots' = set t.jobs.slots k (settled t.next)

@@ -1,6 +1,6 @@
 -- A job taken out of the tables. Assumes nothing.
 use Rattle.std.proofs.Common.{◌≡◌, ℕ, ◌+◌, ◌<◌, ◌≤◌, Bool, true, false, cond, not, ◌&&◌, ◌||◌, eqb, ◌⊎◌, List, length, get_or, set, sym, refl, ap, ◌∙◌, subst, inl, inr, arith}
-use Rattle.std.proofs.lemmas.Bool.{cases_Bool, cases_eq, cases_lt, eqb-true, eq-eqb, ne_eqb, and_parts, both_ways, not_true, eqb-false}
+use Rattle.std.proofs.lemmas.Bool.{cases_Bool, cases_eq, cases_lt, eqb-true, eq-eqb, ne_eqb, and_parts, both_ways, not-true, eqb-false}
 use Rattle.std.proofs.lemmas.List.{get_or-set_same, get_or-set_other, length-set}
 use Rattle.graph.specs.Nodes.{has}
 use Rattle.history.specs.Machine.{State, Status, absent, removed, put_at}
@@ -132,7 +132,7 @@ module _ (t : Tables) (sound : Sound t) (j k number : ℕ) (is : k ≡ slot_of j
 
     -- what passes the test for being left does not stand at slot k
     kept : (a : ℕ) (b : Bool) → (not (eqb a k) && b) ≡ true → (a ≡ k → ⊥) × (b ≡ true)
-    kept a b e = let p = and_parts (not (eqb a k)) b e in (eqb-false a k (not_true _ p.0), p.1)
+    kept a b e = let p = and_parts (not (eqb a k)) b e in (eqb-false a k (not-true _ p.0), p.1)
 
     pub removed_sound : Sound (without_slot t k number rows' items')
     unfolding slots'

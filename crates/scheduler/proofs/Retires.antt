@@ -1,6 +1,6 @@
 -- The job that retires next, by slot and by number. Assumes nothing.
 use Rattle.std.proofs.Common.{◌≡◌, ℕ, zero, suc, ◌+◌, ◌-◌, ◌<◌, ◌≤◌, Bool, true, false, cond, not, ◌&&◌, ◌||◌, T, eqb, ltb, ◌⊎◌, List, [], ◌∷◌, ◌++◌, map, length, get_or, Some, None, Option, sym, refl, ap, ◌∙◌, subst, inl, inr, append_assoc, append-nil, arith}
-use Rattle.std.proofs.lemmas.Bool.{cases_Bool, cases_lt, and_parts, and_from, or_cases, or_left, or_right, both_ways, lt-ltb, ltb-true, not_true, not_from_false}
+use Rattle.std.proofs.lemmas.Bool.{cases_Bool, cases_lt, and_parts, and_from, or_cases, or_left, or_right, both_ways, lt-ltb, ltb-true, not-true, not_from_false}
 use Rattle.std.proofs.lemmas.List.{get_or-map}
 use Rattle.graph.specs.Edges.{Edges}
 use Rattle.graph.specs.Nodes.{has}
@@ -122,7 +122,7 @@ module _ (t : Tables) (sound : Sound t) (values : List ℕ) (room : ℕ) where
         let low = taken_within t sound _ is-taken in
         let p = and_parts (has_committed (by_slot j)) _ m.1 in
         let says = sym (committed_says (slot t.jobs.slots (slot_of j t.jobs.slots)).status) ∙ p.0 in
-        let no_edge = not_true _ p.1 in (
+        let no_edge = not-true _ p.1 in (
           low,
           true_T _ (done _ ∙ and_from _ _ (lt-ltb _ 32 low) says),
           into_nothing _ (λ a. elim (cases_Bool (has (row t.jobs.edges (slot_of j t.jobs.slots)) a)) [

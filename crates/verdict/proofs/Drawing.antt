@@ -1,6 +1,6 @@
 -- The ledger of one access more.
 use Rattle.std.proofs.Common.{◌≡◌, ℕ, ◌+◌, ◌<◌, ◌≤◌, Bool, true, false, not, ◌&&◌, ◌||◌, T, eqb, ◌⊎◌, List, [], ◌∷◌, ◌++◌, length, get_or, set, sym, refl, ap, ◌∙◌, subst, inl, inr, ⊎_elim, arith}
-use Rattle.std.proofs.lemmas.Bool.{both_ways, cases_eq, ne_eqb, eqb-false, not_true, and_parts, and_from, or_left, or_right, or_cases}
+use Rattle.std.proofs.lemmas.Bool.{both_ways, cases_eq, ne_eqb, eqb-false, not-true, and_parts, and_from, or_left, or_right, or_cases}
 use Rattle.std.proofs.lemmas.List.{get_or-set_same, get_or-set_other, length-set}
 use Rattle.graph.specs.Nodes.{has}
 use Rattle.graph.specs.Paths.{◌∈◌, Distinct}
@@ -90,7 +90,7 @@ module _ (H : List Act) (act : Act) (l : Ledger) (k : Keeps H l) (node : ℕ) (b
         (λ o.
         let c = and_parts (has from p) (not (eqb p node)) o in
         let h = m.only p c.0 in
-        let apart_here : p ≡ node → ⊥ = eqb-false p node (not_true (eqb p node) c.1) in
+        let apart_here : p ≡ node → ⊥ = eqb-false p node (not-true (eqb p node) c.1) in
         let other : number_at l p ≡ a.job → ⊥ = λ f. apart_here (apart H l k p node h.0 b (f ∙ sym e)) in
         (h.0, leads_new a (accesses H) (number_at l p) (number_at l node) (sym e) (clash_met (accesses H) a (number_at l p) other h.1)))
         (or_cases (marked l p node) (has from p && not (eqb p node)) (sym (rows.2 p) ∙ t));

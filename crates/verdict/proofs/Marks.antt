@@ -1,6 +1,6 @@
 -- Marks of jobs in words, and how they change with one access more.
 use Rattle.std.proofs.Common.{◌≡◌, ℕ, ◌+◌, ◌<◌, ◌≤◌, Bool, true, false, not, ◌&&◌, ◌||◌, eqb, ltb, ◌⊎◌, List, [], ◌∷◌, ◌++◌, length, get_or, take, sym, refl, ap, ◌∙◌, subst, inl, inr, ⊎_elim, arith}
-use Rattle.std.proofs.lemmas.Bool.{both_ways, eq-eqb, eqb-true, eqb-false, ne_eqb, lt-ltb, not_true, and_parts, and_from, or_left, or_right, or_cases}
+use Rattle.std.proofs.lemmas.Bool.{both_ways, eq-eqb, eqb-true, eqb-false, ne_eqb, lt-ltb, not-true, and_parts, and_from, or_left, or_right, or_cases}
 use Rattle.std.proofs.lemmas.List.{map_more}
 use Rattle.graph.specs.Nodes.{has}
 use Rattle.graph.specs.Paths.{Distinct}
@@ -58,7 +58,7 @@ marks_drop l P Q set set' node m same old more = record {
   only = λ p t.
       let b = and_parts (has set p) (not (eqb p node)) (sym (same p) ∙ t) in
       let h = m.only p b.0 in
-      (h.0, old p h.0 (eqb-false p node (not_true (eqb p node) b.1)) h.1);
+      (h.0, old p h.0 (eqb-false p node (not-true (eqb p node) b.1)) h.1);
   all = λ p c q.
       let h = more p c q in
       same p ∙ and_from (has set p) (not (eqb p node)) (m.all p c h.0) (ap not (ne_eqb p node h.1));
