@@ -19,11 +19,11 @@ loop-node-preserved g c =
     elim c.if-contains.branch [
       | then-contains+then-is_free+then-goes_first w ↦
           subst is (sym w.best-is)
-          (picks_take E keys left eligible node best c.loop-node.invariant (subst T w.if-contains.ensures tt) (w.if-is-free.ensures.free refl) (sym w.if-goes-first.ensures))
+          (picks_take E keys left eligible node best c.loop-node.invariant (subst T w.if-contains.ensures tt) (w.if-is_free.ensures.free refl) (sym w.if-goes_first.ensures))
       | else-contains w ↦
           subst is (sym w.best-is) (elim w.else-contains.branch [
-            | else-contains-via-then-contains+then-is_free+else-goes_first v ↦ picks_keep E keys left eligible node best c.loop-node.invariant (sym v.if-goes-first.ensures)
-            | else-contains-via-then-contains+else-is_free v ↦ picks_skip E keys left eligible node best c.loop-node.invariant (λ _ f. v.is_free.ensures.held v.if-is-free.false f)
+            | else-contains-via-then-contains+then-is_free+else-goes_first v ↦ picks_keep E keys left eligible node best c.loop-node.invariant (sym v.if-goes_first.ensures)
+            | else-contains-via-then-contains+else-is_free v ↦ picks_skip E keys left eligible node best c.loop-node.invariant (λ _ f. v.is_free.ensures.held v.if-is_free.false f)
             | else-contains-via-else-contains v ↦ picks_skip E keys left eligible node best c.loop-node.invariant (λ a _. subst T (sym v.if-contains.ensures) a)
           ])
     ]

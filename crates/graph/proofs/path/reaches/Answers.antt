@@ -27,7 +27,7 @@ loop-at-smaller g c =
     (set_edge _ (g.G.Graph.leads graph) c.in-Some.at c.sources-in-Some.result c.below-nodes.result _ inside c.sources-in-Some.ensures nodes c.intersection.ensures)
     (edge_set _ (g.G.Graph.leads graph) c.in-Some.at c.sources-in-Some.result c.below-nodes.result _ inside c.sources-in-Some.ensures nodes c.intersection.ensures)
     c.minus-fresh.ensures c.union-seen.ensures c.without.ensures c.union-left.ensures
-    64 member.0 c.loop-at.invariant.0 c.loop-at.invariant.1 c.minus-fresh.type_inv c.union-seen.type_inv c.without.type_inv c.union-left.type-inv
+    64 member.0 c.loop-at.invariant.0 c.loop-at.invariant.1 c.minus-fresh.type_inv c.union-seen.type_inv c.without.type_inv c.union-left.type_inv
 
 pub loop-at-preserved : goal.loop-at-preserved
 loop-at-preserved g c =
