@@ -14,7 +14,7 @@ returns-in-Some g c =
 pub loop-node-preserved : goal.loop-node-preserved
 loop-node-preserved g c =
     below_more (λ k. Path (PartEdges (g.G.Graph.size c.args.graph.now) c.args.set (g.G.Graph.leads c.args.graph.now)) k k → _)
-    c.loop-node.node c.loop-node.invariant c.in-default.ensures
+    c.loop-node.node c.loop-node.invariant c.in_default.ensures
 
 pub returns : goal.returns
 returns g c =

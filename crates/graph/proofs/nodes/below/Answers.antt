@@ -4,11 +4,11 @@ use Rattle.graph.specs.Nodes.{has}
 use Rattle.graph.proofs.Words.{bit_low}
 use Rattle.graph.proofs.nodes.below.Goals as goal
 
-pub overflow-shl-result : goal.overflow-shl-result
-overflow-shl-result c = c.if-node-lt64.true
+pub overflow_shl-result : goal.overflow_shl-result
+overflow_shl-result c = c.if-node-lt64.true
 
-pub overflow-sub-result : goal.overflow-sub-result
-overflow-sub-result c = rw (one_shl c.args.node 64 c.if-node-lt64.true) (pow_pos c.args.node)
+pub overflow_sub-result : goal.overflow_sub-result
+overflow_sub-result c = rw (one_shl c.args.node 64 c.if-node-lt64.true) (pow_pos c.args.node)
 
 pub returns-then-node-lt64 : goal.returns-then-node-lt64
 returns-then-node-lt64 c k = rw (one_shl c.args.node 64 c.if-node-lt64.true) (bit_low c.args.node k)

@@ -36,5 +36,5 @@ returns g c =
       count = c.loop-node.invariant.1;
       places = c.loop-node.invariant.0;
       order = ordered_orders (g.G.Graph.size graph) (g.G.Graph.leads graph) c.args.keys.now c.args.set (take c.loop-node.count c.loop-node.nodes)
-          (placed_all _ _ c.args.keys.now _ (take c.loop-node.count c.loop-node.nodes) _ c.loop-node.invariant.2 c.in-default.ensures);
+          (placed_all _ _ c.args.keys.now _ (take c.loop-node.count c.loop-node.nodes) _ c.loop-node.invariant.2 c.in_default.ensures);
     }

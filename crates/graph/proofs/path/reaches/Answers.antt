@@ -9,8 +9,8 @@ pub loop-at-init : goal.loop-at-init
 loop-at-init g c =
     let graph = c.args.graph.now in
     let nodes : (k : ℕ) → has c.below-nodes.result k ≡ ltb k (g.G.Graph.size graph) = λ k. c.below-nodes.ensures k ∙ ap (ltb k) c.size.ensures in (
-      c.intersection-seen.type-inv,
-      c.intersection-seen.type-inv,
+      c.intersection-seen.type_inv,
+      c.intersection-seen.type_inv,
       reaching_first _ c.args.goal c.intersection-seen.result
           (set_edge _ (g.G.Graph.leads graph) c.args.goal c.sources.result c.below-nodes.result _ c.requires c.sources.ensures nodes c.intersection-seen.ensures)
           (edge_set _ (g.G.Graph.leads graph) c.args.goal c.sources.result c.below-nodes.result _ c.requires c.sources.ensures nodes c.intersection-seen.ensures),
@@ -27,7 +27,7 @@ loop-at-smaller g c =
     (set_edge _ (g.G.Graph.leads graph) c.in-Some.at c.sources-in-Some.result c.below-nodes.result _ inside c.sources-in-Some.ensures nodes c.intersection.ensures)
     (edge_set _ (g.G.Graph.leads graph) c.in-Some.at c.sources-in-Some.result c.below-nodes.result _ inside c.sources-in-Some.ensures nodes c.intersection.ensures)
     c.minus-fresh.ensures c.union-seen.ensures c.without.ensures c.union-left.ensures
-    64 member.0 c.loop-at.invariant.0 c.loop-at.invariant.1 c.minus-fresh.type-inv c.union-seen.type-inv c.without.type-inv c.union-left.type-inv
+    64 member.0 c.loop-at.invariant.0 c.loop-at.invariant.1 c.minus-fresh.type_inv c.union-seen.type_inv c.without.type_inv c.union-left.type_inv
 
 pub loop-at-preserved : goal.loop-at-preserved
 loop-at-preserved g c =
@@ -36,8 +36,8 @@ loop-at-preserved g c =
     let member = c.in-Some.ensures in
     let inside = begins_inside _ (g.G.Graph.leads graph) (r.leads_on c.in-Some.at (r.among c.in-Some.at member.1)) in
     let nodes : (k : ℕ) → has c.below-nodes.result k ≡ ltb k (g.G.Graph.size graph) = λ k. c.below-nodes.ensures k ∙ ap (ltb k) c.size.ensures in (
-      c.union-seen.type-inv,
-      c.union-left.type-inv,
+      c.union-seen.type_inv,
+      c.union-left.type_inv,
       reaching_more _ c.args.goal _ _ c.in-Some.at c.intersection.result c.minus-fresh.result c.union-seen.result c.without.result c.union-left.result r member.1
           (set_edge _ (g.G.Graph.leads graph) c.in-Some.at c.sources-in-Some.result c.below-nodes.result _ inside c.sources-in-Some.ensures nodes c.intersection.ensures)
           (edge_set _ (g.G.Graph.leads graph) c.in-Some.at c.sources-in-Some.result c.below-nodes.result _ inside c.sources-in-Some.ensures nodes c.intersection.ensures)
@@ -47,5 +47,5 @@ loop-at-preserved g c =
 pub returns : goal.returns
 returns g c = record {
   reached = λ e. c.loop-at.invariant.2.leads_on c.args.start (sym c.contains.ensures ∙ e);
-  missed = λ e p. both_ways _ (sym c.contains.ensures ∙ e) (reaching_all _ c.args.goal _ _ c.loop-at.invariant.2 c.in-default.ensures c.args.start p);
+  missed = λ e p. both_ways _ (sym c.contains.ensures ∙ e) (reaching_all _ c.args.goal _ _ c.loop-at.invariant.2 c.in_default.ensures c.args.start p);
 }

@@ -46,11 +46,11 @@ pub search-preserved : goal.search-preserved
 search-preserved g c =
     (searched_more _ _ _ _ (g.G.Graph.few c.args.graph.now) _ _ _ _ c.loop-to.invariant.0 (λ j e. omega (arith, e.1)), c.loop-to.invariant.1)
 
-pub way-to-requires : goal.way-to-requires
-way-to-requires g c =
+pub way_to-requires : goal.way_to-requires
+way_to-requires g c =
     let graph = c.args.graph.now in
     let few = g.G.Graph.few graph in
-    let e : Ended (Edges (g.G.Graph.size graph) (g.G.Graph.leads graph)) (g.G.Graph.size graph) c.args.start c.args.goal c.search-test.found c.search-test.new =
+    let e : Ended (Edges (g.G.Graph.size graph) (g.G.Graph.leads graph)) (g.G.Graph.size graph) c.args.start c.args.goal c.search-test.found c.search-test.last =
     elim c.search-test.branch [
       | else-search-test w ↦ rw w.found-is (ended_all _ _ _ _ few _ _ _ c.search.invariant.0 w.search-test.false (w.last-is ∙ c.search.invariant.1))
       | then-search-test+then-loop-to-test+then-leads+then-to-goal w ↦
@@ -66,7 +66,7 @@ pub returns-in-Some : goal.returns-in-Some
 returns-in-Some g c =
     let graph = c.args.graph.now in
     let few = g.G.Graph.few graph in
-    let e : Ended (Edges (g.G.Graph.size graph) (g.G.Graph.leads graph)) (g.G.Graph.size graph) c.args.start c.args.goal c.search-test.found c.search-test.new =
+    let e : Ended (Edges (g.G.Graph.size graph) (g.G.Graph.leads graph)) (g.G.Graph.size graph) c.args.start c.args.goal c.search-test.found c.search-test.last =
     elim c.search-test.branch [
       | else-search-test w ↦ rw w.found-is (ended_all _ _ _ _ few _ _ _ c.search.invariant.0 w.search-test.false (w.last-is ∙ c.search.invariant.1))
       | then-search-test+then-loop-to-test+then-leads+then-to-goal w ↦
@@ -77,13 +77,13 @@ returns-in-Some g c =
     ] in
     let r = ended_at _ _ _ _ _ _ _ e c.in-Some.is in
     let shown = way_shown _ _ _ _ few _ r.0 _ r.1 r.2 in
-    (shows_finds _ _ _ _ shown, rw c.way-to.ensures.way shown, c.way-to.ensures.count, c.way-to.ensures.places)
+    (shows_finds _ _ _ _ shown, rw c.way_to.ensures.way shown, c.way_to.ensures.count, c.way_to.ensures.places)
 
 pub returns-in-None : goal.returns-in-None
 returns-in-None g c =
     let graph = c.args.graph.now in
     let few = g.G.Graph.few graph in
-    let e : Ended (Edges (g.G.Graph.size graph) (g.G.Graph.leads graph)) (g.G.Graph.size graph) c.args.start c.args.goal c.search-test.found c.search-test.new =
+    let e : Ended (Edges (g.G.Graph.size graph) (g.G.Graph.leads graph)) (g.G.Graph.size graph) c.args.start c.args.goal c.search-test.found c.search-test.last =
     elim c.search-test.branch [
       | else-search-test w ↦ rw w.found-is (ended_all _ _ _ _ few _ _ _ c.search.invariant.0 w.search-test.false (w.last-is ∙ c.search.invariant.1))
       | then-search-test+then-loop-to-test+then-leads+then-to-goal w ↦
