@@ -1,12 +1,12 @@
 -- A line that is read is the line that is written, and the other way round. Rests on the laws of
 -- pieces and of digits.
-use Rattle.std.proofs.Common.{◌≡◌, ℕ, ◌+◌, ◌-◌, ◌^◌, ◌<◌, ◌≤◌, true, false, cond, not, ◌&&◌, eqb, ltb, leb, List, [], ◌∷◌, ◌++◌, length, get_or, Some, None, Ok, Err, decimal, Option, Result, sym, refl, ap, ◌∙◌, subst, inl, inr, arith}
+use Rattle.std.proofs.Common.{◌≡◌, ℕ, ◌^◌, ◌<◌, ◌≤◌, true, false, cond, not, ◌&&◌, eqb, ltb, leb, List, [], ◌∷◌, ◌++◌, length, get_or, Some, None, Ok, Err, decimal, Option, Result, sym, refl, ap, ◌∙◌, subst, inl, inr, arith}
 use Rattle.std.specs.Str.Parse.{AllDigits, digits_value as value}
 use Rattle.std.specs.Str.{all_ascii_digits}
 use Rattle.std.proofs.lemmas.List.{append_assoc}
 use Rattle.std.proofs.lemmas.Fmt.{decimal_is_IsNumeral, decimal_nonempty, decimal_digit, first_decimal, digits_decimal, digits_value-decimal, decimal-digits_value}
 use Rattle.std.proofs.lemmas.Str.Parse.{IsNumeralModel, numerals_by_value, tells_all_ascii_digits, digit_from_value}
-use Rattle.std.proofs.lemmas.Bool.{cases_Bool, cases_eq, and_parts, and_from, not_true, and_left, and_right, not_from_false, ne_eqb, lt-ltb, le-ltb, le-leb, leb-true, ltb-true, eqb-true, ltb-false, eqb-false, and_cases}
+use Rattle.std.proofs.lemmas.Bool.{cases_Bool, cases_eq, and_parts, and_from, not-true, and_left, and_right, not_from_false, ne_eqb, lt-ltb, le-ltb, le-leb, leb-true, ltb-true, eqb-true, ltb-false, eqb-false, and_cases}
 use Rattle.trace.specs.declared.act.Act.{Act}
 use Rattle.trace.specs.declared.act.Act.TheVariants as act
 use Rattle.trace.specs.declared.kind.Kind.{Kind}
@@ -41,7 +41,7 @@ taken most ds = cond (leb (value 10 ds) most) (Ok (value 10 ds)) (Err AboveLimit
 -- a first digit 0 stands alone
 lone_zero : (ds : List ℕ) → not (leading_zero ds) ≡ true → 0 < length ds → get_or ds 0 0 ≡ 48 → length ds ≡ 1
 lone_zero ds h some zero =
-    elim (and_cases (eqb (get_or ds 0 0) 48) (ltb 1 (length ds)) (not_true (leading_zero ds) h)) [
+    elim (and_cases (eqb (get_or ds 0 0) 48) (ltb 1 (length ds)) (not-true (leading_zero ds) h)) [
       | inl e ↦ absurd (eqb-false (get_or ds 0 0) 48 e zero)
       | inr e ↦ omega (arith, ltb-false 1 (length ds) e)
     ]
