@@ -2,7 +2,7 @@
 use Rattle.std.proofs.Common.{◌≡◌, ℕ, ◌≤◌, min, List, length, None, sym, refl, ap, ◌∙◌, subst, arith}
 use Rattle.std.proofs.lemmas.List.{get_or_past}
 use Rattle.history.specs.Machine.{holdings, those, rising, holds}
-use Rattle.scheduler.specs.declared.core.Core.{Core}
+use Rattle.scheduler.specs.declared.hub_core.Core.{Core}
 use Rattle.scheduler.specs.declared.tables.ItemState.{ItemState}
 use Rattle.scheduler.specs.declared.tables.Tables.{Tables}
 use Rattle.scheduler.specs.Cores.{value_of, held_by}

@@ -10,7 +10,7 @@ pub loop-x-init : goal.loop-x-init
 loop-x-init c = swept_none (λ _. ItemWithout c.args.job c.args.slot) idle c.args.items.now
 
 pub loop-x-preserved : goal.loop-x-preserved
-loop-x-preserved c = swept_more (λ _. ItemWithout c.args.job c.args.slot) idle c.args.items.now c.loop-x.x c.loop-x.items c.clear-item.result c.loop-x.invariant (omega (arith, c.loop-x.invariant.long)) c.clear-item.ensures
+loop-x-preserved c = swept_more (λ _. ItemWithout c.args.job c.args.slot) idle c.args.items.now c.loop-x.x c.loop-x.items c.clear_item.result c.loop-x.invariant (omega (arith, c.loop-x.invariant.long)) c.clear_item.ensures
 
 pub returns : goal.returns
 returns c = (c.loop-x.invariant.long, swept_all (λ _. ItemWithout c.args.job c.args.slot) idle c.args.items.now c.loop-x.x c.loop-x.items c.loop-x.invariant (omega arith) (item_without_idle c.args.job c.args.slot))

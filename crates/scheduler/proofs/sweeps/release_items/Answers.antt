@@ -10,7 +10,7 @@ pub loop-x-init : goal.loop-x-init
 loop-x-init c = swept_none (λ _. ItemLetGo c.args.job) idle c.args.items.now
 
 pub loop-x-preserved : goal.loop-x-preserved
-loop-x-preserved c = swept_more (λ _. ItemLetGo c.args.job) idle c.args.items.now c.loop-x.x c.loop-x.items c.release-item.result c.loop-x.invariant (omega (arith, c.loop-x.invariant.long)) c.release-item.ensures
+loop-x-preserved c = swept_more (λ _. ItemLetGo c.args.job) idle c.args.items.now c.loop-x.x c.loop-x.items c.release_item.result c.loop-x.invariant (omega (arith, c.loop-x.invariant.long)) c.release_item.ensures
 
 pub returns : goal.returns
 returns c = (c.loop-x.invariant.long, swept_all (λ _. ItemLetGo c.args.job) idle c.args.items.now c.loop-x.x c.loop-x.items c.loop-x.invariant (omega arith) (item_let_go_idle c.args.job))

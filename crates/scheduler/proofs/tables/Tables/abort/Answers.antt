@@ -11,5 +11,5 @@ returns-in-err-slot c = let p = err_from_is_err_and c.from-residual.result c.fro
 pub returns : goal.returns
 returns c = record {
   sound = c.remove.ensures.sound;
-  aborts = λ values room. abort_granted c.args.self.now c.args.job values room _ _ c.in-ok-slot.ensures (c.remove.ensures.removes values room);
+  aborts = λ values room. abort_granted c.args.self.now c.args.job values room _ _ c.in_ok-slot.ensures (c.remove.ensures.removes values room);
 }

@@ -11,6 +11,6 @@ returns-in-err-running c = let p = err_from_is_err_and c.from-residual.result c.
 
 pub returns : goal.returns
 returns c values room e = (
-  runs_status c.args.self.now c.args.job values room _ c.in-ok-running.ensures,
-  held_holdings c.args.self.now c.args.job c.args.items c.count-below.result values room e (c.count-below.ensures ∙ ap (λ n. length (held_below c.args.self.now c.args.job n)) c.min.ensures),
+  runs_status c.args.self.now c.args.job values room _ c.in_ok-running.ensures,
+  held_holdings c.args.self.now c.args.job c.args.items c.count_below.result values room e (c.count_below.ensures ∙ ap (λ n. length (held_below c.args.self.now c.args.job n)) c.min.ensures),
 )

@@ -11,9 +11,9 @@ returns-in-err-slot c = let p = err_from_is_err_and c.from-residual.result c.fro
 
 pub returns : goal.returns
 returns c = record {
-  sound = c.note-commit.ensures.sound;
+  sound = c.note_commit.ensures.sound;
   ends = λ values room left. (
-    runs_status c.args.self.now c.args.job values room _ c.in-ok-slot.ensures,
-    c.note-commit.ensures.ends values room left,
+    runs_status c.args.self.now c.args.job values room _ c.in_ok-slot.ensures,
+    c.note_commit.ensures.ends values room left,
   );
 }

@@ -36,17 +36,17 @@ returns c =
     let j = c.args.job in
     let x = c.args.item in
     let served = c.args.served in
-    let k = c.in-ok-slot.field-0 in
-    let may = c.in-ok-slot.ensures in
-    let from = c.read-sources-from.result in
-    let sources = c.read-sources-from.ensures in
+    let k = c.in_ok-slot.field-0 in
+    let may = c.in_ok-slot.ensures in
+    let from = c.read_sources-from.result in
+    let sources = c.read_sources-from.ensures in
     let low : x < 64 = omega (arith, may.1) in
     let marks = row c.draw.new.rows k in
     let joined = c.draw.ensures.1 in
     rw c.draw.ensures.0 (record {
       sound = read_sound t c.requires.0 j k may.0.0 may.0.1 x from marks low joined sources c.with.result c.with.ensures;
       reads = λ values room is val.
-          read_granted t j x served values room is k may _ c.seen.result (search_tells t c.requires.0 j k may.0.0 may.0.1 x from false sources values room c.closes-cycle.result c.closes-cycle.ensures ∙ c.if-closes-cycle.false)
+          read_granted t j x served values room is k may _ c.seen.result (search_tells t c.requires.0 j k may.0.0 may.0.1 x from false sources values room c.closes_cycle.result c.closes_cycle.ensures ∙ c.if-closes-cycle.false)
           (c.seen.ensures ∙ ap (held_value (item t.items x).held) (val may.1))
           (read_state t c.requires.0 j k may.0.0 may.0.1 x from marks low joined sources c.with.result c.with.ensures values room);
     })

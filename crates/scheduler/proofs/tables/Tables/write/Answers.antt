@@ -36,16 +36,16 @@ returns c =
     let j = c.args.job in
     let x = c.args.item in
     let served = c.args.served in
-    let k = c.in-ok-slot.field-0 in
-    let may = c.in-ok-slot.ensures in
-    let from = c.write-sources-from.result in
-    let sources = c.write-sources-from.ensures in
+    let k = c.in_ok-slot.field-0 in
+    let may = c.in_ok-slot.ensures in
+    let from = c.write_sources-from.result in
+    let sources = c.write_sources-from.ensures in
     let low : x < 64 = omega (arith, may.1) in
     let marks = row c.draw.new.rows k in
     let joined = c.draw.ensures.1 in
     rw c.draw.ensures.0 (record {
       sound = write_sound t c.requires.0 j k may.0.0 may.0.1 x from marks low joined sources c.args.value c.with.result c.with.ensures;
       writes = λ values room is.
-          write_granted t j x served values room is k may _ c.args.value (search_tells t c.requires.0 j k may.0.0 may.0.1 x from true sources values room c.closes-cycle.result c.closes-cycle.ensures ∙ c.if-closes-cycle.false)
+          write_granted t j x served values room is k may _ c.args.value (search_tells t c.requires.0 j k may.0.0 may.0.1 x from true sources values room c.closes_cycle.result c.closes_cycle.ensures ∙ c.if-closes-cycle.false)
           (write_state t c.requires.0 j k may.0.0 may.0.1 x from marks low joined sources c.args.value c.with.result c.with.ensures values room);
     })
