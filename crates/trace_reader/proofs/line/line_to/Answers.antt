@@ -9,4 +9,4 @@ returns-in-err-act c =
     rw (p.1, p.2) (line_told c.args.place c.args.bytes.now c.args.end (Err c.in-err-act.field-0.0) c.in-err-act.ensures)
 
 pub returns : goal.returns
-returns c = line_told c.args.place c.args.bytes.now c.args.end (Ok c.in-ok-act.act) c.in-ok-act.ensures
+returns c = line_told c.args.place c.args.bytes.now c.args.end (Ok c.in_ok-act.act) c.in_ok-act.ensures

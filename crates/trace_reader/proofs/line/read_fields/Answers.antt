@@ -16,4 +16,4 @@ returns c =
     let comma : get_or c.args.line.now 1 0 ≡ 44 = search rules in
     let h = kind_named c.args.line.now c.in-Some.kind c.requires comma e in
     let r = take_rest c.args.line.now 2 in
-    cc (c.cut.ensures.front, c.cut.ensures.back, c.cut-2.ensures.front, c.cut-2.ensures.back, c.act-of.ensures)
+    cc (c.cut.ensures.front, c.cut.ensures.back, c.cut-2.ensures.front, c.cut-2.ensures.back, c.act_of.ensures)
