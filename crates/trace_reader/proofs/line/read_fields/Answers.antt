@@ -4,11 +4,11 @@ use Rattle.trace.specs.Kinds.{kind_of}
 use Rattle.trace_reader.proofs.Fields.{no_kind_short, no_kind_long, kind_named}
 use Rattle.trace_reader.proofs.line.read_fields.Goals as goal
 
-pub returns-in-default : goal.returns-in-default
-returns-in-default c = search (rules, no_kind_short)
+pub returns-in_default : goal.returns-in_default
+returns-in_default c = search (rules, no_kind_short)
 
-pub returns-in-default·2 : goal.returns-in-default·2
-returns-in-default·2 c = search (rules, no_kind_long)
+pub returns-in_default-2 : goal.returns-in_default-2
+returns-in_default-2 c = search (rules, no_kind_long)
 
 pub returns : goal.returns
 returns c =
