@@ -9,6 +9,8 @@
 // ending   committing and aborting a job
 // retiring retiring committed jobs
 // sweeps   taking a job out of edges and items
+#![tactic(auto)]
+
 mod ending;
 pub mod hub_core;
 mod opening;

@@ -1,5 +1,4 @@
-use Rattle.std.proofs.Common.{◌≡◌, ℕ, not, ◌&&◌, eqb, sym, refl, ap, ◌∙◌, subst, arith}
-use Rattle.graph.specs.Nodes.{has}
+use Rattle.std.proofs.Common.{arith}
 use Rattle.scheduler.specs.Marks.{RowWithout}
 use Rattle.scheduler.proofs.Swept.{swept_none, swept_more, swept_all}
 use Rattle.scheduler.proofs.Sounds.{row_without_none}

@@ -1,6 +1,5 @@
-use Rattle.std.proofs.Common.{◌≡◌, ℕ, not, ◌&&◌, eqb, sym, refl, ap, ◌∙◌, subst, arith}
+use Rattle.std.proofs.Common.{arith}
 use Rattle.scheduler.specs.Reading.{idle}
-use Rattle.graph.specs.Nodes.{has}
 use Rattle.scheduler.specs.Marks.{ItemWithout}
 use Rattle.scheduler.proofs.Swept.{swept_none, swept_more, swept_all}
 use Rattle.scheduler.proofs.Sounds.{item_without_idle}

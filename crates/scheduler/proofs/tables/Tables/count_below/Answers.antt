@@ -1,4 +1,4 @@
-use Rattle.std.proofs.Common.{◌≡◌, sym, refl, ap, ◌∙◌, arith}
+use Rattle.std.proofs.Common.{sym, refl, ◌∙◌, arith}
 use Rattle.history.specs.Machine.{those, rising}
 use Rattle.scheduler.proofs.Commits.{count_next_in, count_next_out}
 use Rattle.scheduler.proofs.tables.Tables.count_below.Goals as goal

@@ -1,4 +1,4 @@
-use Rattle.std.proofs.Common.{set, refl, ap, arith}
+use Rattle.std.proofs.Common.{set, refl, ap}
 use Rattle.scheduler.proofs.Opens.{settled, opened_sound, open_granted, open_refused}
 use Rattle.scheduler.proofs.tables.Tables.open.Goals as goal
 

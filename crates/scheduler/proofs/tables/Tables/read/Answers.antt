@@ -1,4 +1,4 @@
-use Rattle.std.proofs.Common.{◌≡◌, ◌<◌, true, false, ap, ◌∙◌, arith}
+use Rattle.std.proofs.Common.{◌<◌, false, ap, ◌∙◌, arith}
 use Rattle.std.proofs.lemmas.Result.{err_from_is_err_and}
 use Rattle.history.specs.Machine.{held_value}
 use Rattle.scheduler.specs.Reading.{item, row}

@@ -1,5 +1,4 @@
 use Rattle.std.proofs.Common.{arith}
-use Rattle.std.proofs.lemmas.Option.{MatchOption-at_none}
 use Rattle.scheduler.proofs.RetireRuns.{none_retired, one_retired, retired_full, retired_rest}
 use Rattle.scheduler.proofs.tables.Tables.retire.Goals as goal
 

@@ -1,7 +1,6 @@
-use Rattle.std.proofs.Common.{◌≡◌, ◌<◌, true, false, ap, ◌∙◌, arith}
+use Rattle.std.proofs.Common.{◌<◌, true, ◌∙◌, arith}
 use Rattle.std.proofs.lemmas.Result.{err_from_is_err_and}
-use Rattle.history.specs.Machine.{held_value}
-use Rattle.scheduler.specs.Reading.{item, row}
+use Rattle.scheduler.specs.Reading.{row}
 use Rattle.scheduler.proofs.Accesses.{write_sound, write_state}
 use Rattle.scheduler.proofs.Draws.{search_tells}
 use Rattle.scheduler.proofs.Permits.{write_barred, write_closes, write_granted}
