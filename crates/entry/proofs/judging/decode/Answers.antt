@@ -3,10 +3,10 @@ use Rattle.entry.proofs.Requests.{known_stops}
 use Rattle.entry.proofs.Decodes.{decoding_more, decoding_ends, decoding_all}
 use Rattle.entry.proofs.judging.decode.Goals as goal
 
-pub returns-in-default : goal.returns-in-default
-returns-in-default c =
+pub returns-in_default : goal.returns-in_default
+returns-in_default c =
     decoding_ends c.args.requests.now c.loop-at.at c.loop-at.steps (omega arith)
-    (known_stops c.args.requests.now c.loop-at.at (omega arith) c.in-default.ensures) c.loop-at.invariant
+    (known_stops c.args.requests.now c.loop-at.at (omega arith) c.in_default.ensures) c.loop-at.invariant
 
 pub loop-at-preserved : goal.loop-at-preserved
 loop-at-preserved c =

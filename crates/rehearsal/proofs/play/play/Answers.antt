@@ -8,7 +8,7 @@ loop-step-init c = going_start _ _ _
 
 pub loop-step-preserved : goal.loop-step-preserved
 unfolding state
-loop-step-preserved c = going_more _ c.args.steps.now _ _ _ c.loop-step.step-index _ _ (omega arith) refl c.in-ok-take-turn.ensures c.loop-step.invariant
+loop-step-preserved c = going_more _ c.args.steps.now _ _ _ c.loop-step.step-index _ _ (omega arith) refl c.in_ok-take_turn.ensures c.loop-step.invariant
 
 pub returns : goal.returns
 returns c = going_all _ c.args.steps.now _ _ c.loop-step.step-index _ (omega arith) c.loop-step.invariant

@@ -6,4 +6,4 @@ pub returns : goal.returns
 returns c =
     rehearsed _ _ c.args.first _ _ _ c.args.steps.now _ _
     c.new-hub.ensures.made c.new.ensures.means.0 c.new.ensures.means.1 c.new-hub.ensures.serializable c.new-lines.ensures.items
-    c.in-ok-play.ensures
+    c.in_ok-play.ensures
