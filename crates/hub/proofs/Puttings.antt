@@ -1,5 +1,5 @@
 -- What a job holds, put into a store item by item. Assumes nothing.
-use Rattle.std.proofs.Common.{◌≡◌, ℕ, zero, suc, ◌+◌, ◌-◌, ◌<◌, ◌≤◌, min, Bool, true, false, cond, eqb, ◌⊎◌, List, [], ◌∷◌, ◌++◌, map, length, set, Some, None, Ok, Err, Option, Result, sym, refl, ap, ◌∙◌, subst, inl, inr, arith}
+use Rattle.std.proofs.Common.{◌≡◌, ℕ, zero, suc, ◌+◌, ◌-◌, ◌<◌, ◌≤◌, min, true, false, cond, eqb, List, [], ◌∷◌, ◌++◌, map, length, set, Some, None, Ok, Err, Option, Result, sym, refl, ap, ◌∙◌, subst, inl, inr, arith}
 use Rattle.std.proofs.lemmas.Bool.{cases_Bool}
 use Rattle.std.proofs.lemmas.List.{length-set, length-append, map-append}
 use Rattle.history.specs.declared.holding.Holding.{Holding}
@@ -9,7 +9,7 @@ use Rattle.scheduler.proofs.Commits.{those_next_in, those_next_out}
 use Rattle.store.proofs.Puts.{put_granted}
 use Rattle.store.specs.Stores.{Puts, Turns}
 use Rattle.store.specs.declared.store.PutRefused.{PutRefused}
-use Rattle.hub.specs.Putting.{PutAll, OnTheWay, PutBelow, PutInTurn, held_below, held_pairs, with_values}
+use Rattle.hub.specs.Putting.{PutAll, PutBelow, PutInTurn, held_below, held_pairs, with_values}
 
 no_value : {X : Type 0} (v : ℕ) → ◌≡◌ {A = Option ℕ} None (Some v) → X
 no_value v e = let z : ◌≡◌ {A = ℕ} 0 1 = cc in absurd (omega arith)

@@ -1,9 +1,9 @@
 -- How a peek and a commit step. Assumes nothing.
-use Rattle.std.proofs.Common.{◌≡◌, ℕ, ◌+◌, ◌<◌, ◌≤◌, min, Bool, true, false, cond, ltb, leb, ◌⊎◌, List, length, get_or, Some, None, Ok, Err, Option, Result, sym, refl, ap, ◌∙◌, subst, inl, inr, arith}
+use Rattle.std.proofs.Common.{◌≡◌, ℕ, ◌+◌, ◌<◌, ◌≤◌, min, Bool, true, false, cond, ltb, leb, List, length, get_or, Some, None, Ok, Err, Option, Result, sym, refl, ap, ◌∙◌, inl, inr, arith}
 use Rattle.std.proofs.lemmas.Bool.{cases_lt, lt-ltb, le-ltb, le-leb, lt-leb, leb-true, leb-false}
 use Rattle.history.specs.declared.refusal.Refusal.{Refusal}
 use Rattle.history.specs.declared.refusal.Refusal.TheVariants.{ItemNotServed, NoRoom}
-use Rattle.history.specs.Machine.{State, peek, commit, answered, done, refused, refusal, granted_answer, granted_state, refused_state, put_count, refuse_if, not_running, holdings, has_ended, put_all, by_refusal, done_or_refusal, ◌else◌, Steps, Commits}
+use Rattle.history.specs.Machine.{State, peek, commit, answered, done, refused, refusal, granted_answer, granted_state, refused_state, put_count, refuse_if, not_running, holdings, has_ended, by_refusal, ◌else◌, Steps}
 use Rattle.store.specs.Stores.{at}
 use Rattle.scheduler.specs.Cores.{machine, Ends}
 use Rattle.scheduler.specs.declared.hub_core.Core.{Core}

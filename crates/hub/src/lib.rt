@@ -2,6 +2,8 @@
 //
 // hub      the hub and its calls
 // putting  putting what a job holds into the store
+#![tactic(auto)]
+
 pub mod hub;
 mod putting;
 

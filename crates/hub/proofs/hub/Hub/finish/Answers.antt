@@ -1,5 +1,4 @@
 use Rattle.std.proofs.Common.{arith}
-use Rattle.scheduler.specs.Cores.{machine}
 use Rattle.scheduler.specs.Reading.{state}
 use Rattle.hub.proofs.Steppings.{commit_ends}
 use Rattle.hub.proofs.hub.Hub.finish.Goals as goal
