@@ -18,7 +18,7 @@ returns-in-err-follow c =
 
 pub loop-index-preserved : goal.loop-index-preserved
 loop-index-preserved c =
-    read_more c.args.steps.now c.loop-index.index c.loop-index.ledger c.follow.new.ledger c.loop-index-test.true c.loop-index.invariant c.in-ok-follow.field-0 c.in-ok-follow.ensures
+    read_more c.args.steps.now c.loop-index.index c.loop-index.ledger c.follow.new.ledger c.loop-index-test.true c.loop-index.invariant c.in_ok-follow.field-0 c.in_ok-follow.ensures
 
 pub returns : goal.returns
 returns c = read_all c.args.steps.now c.loop-index.index c.loop-index.ledger c.loop-index-test.false (omega arith) c.loop-index.invariant

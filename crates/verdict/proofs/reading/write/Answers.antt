@@ -15,7 +15,7 @@ returns c value =
     let f = c.in-Some.ensures in (
       runs_there H l c.requires.1 c.args.job c.in-Some.node f,
       tt,
-      keeps_write H l c.note-write.new.self c.requires.1 c.in-Some.node c.args.job c.args.item value c.before-write.result f.0 f.1
-          (clash_write l c.args.item (accesses H) c.users-users.result c.before-write.result c.users-users.ensures c.before-write.ensures)
-          c.draw.new.self c.draw.ensures c.note-write.ensures,
+      keeps_write H l c.note_write.new.self c.requires.1 c.in-Some.node c.args.job c.args.item value c.before_write.result f.0 f.1
+          (clash_write l c.args.item (accesses H) c.users-users.result c.before_write.result c.users-users.ensures c.before_write.ensures)
+          c.draw.new.self c.draw.ensures c.note_write.ensures,
     )
