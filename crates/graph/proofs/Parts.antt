@@ -1,5 +1,5 @@
 -- The part of a graph between the nodes of a set: its edges are those within the set.
-use Rattle.std.proofs.Common.{◌≡◌, ℕ, ◌<◌, ◌≤◌, Bool, true, false, ◌&&◌, T, List, [], ◌∷◌, ◌++◌, sym, subst, arith}
+use Rattle.std.proofs.Common.{ℕ, ◌<◌, ◌≤◌, Bool, true, false, ◌&&◌, T, List, [], ◌∷◌, ◌++◌, sym, subst, arith}
 use Rattle.graph.specs.Edges.{Edges, Within}
 use Rattle.graph.specs.Nodes.{has}
 use Rattle.graph.specs.Paths.{Relation, Path, edge, ◌then◌, Cycle, Linked, ShowsPath, ShowsCycle}

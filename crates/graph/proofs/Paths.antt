@@ -1,6 +1,6 @@
 -- Paths of a relation: put together, carried over to another relation, and shut in.
-use Rattle.std.proofs.Common.{◌≡◌, ℕ, ◌⊎◌, List, [], ◌∷◌, ◌++◌, sym, refl, subst, inl, inr}
-use Rattle.graph.specs.Paths.{Relation, Path, edge, ◌then◌, Linked, ShowsPath}
+use Rattle.std.proofs.Common.{◌≡◌, ℕ, List, [], ◌∷◌, ◌++◌, refl}
+use Rattle.graph.specs.Paths.{Relation, Path, edge, ◌then◌, Linked}
 
 pub path_map : {E F : Relation} → ((i j : ℕ) → E i j → F i j) → {i j : ℕ} → Path E i j → Path F i j
 path_map f (edge e) = edge (f _ _ e)

@@ -1,9 +1,9 @@
 -- Where every node left has an edge from one left, there is a cycle among them.
-use Rattle.std.proofs.Common.{◌≡◌, ℕ, zero, suc, ◌<◌, ◌≤◌, Bool, true, false, ◌&&◌, T, ◌⊎◌, List, None, sym, refl, subst, inl, inr, ⊎_elim, arith}
+use Rattle.std.proofs.Common.{ℕ, zero, suc, ◌<◌, Bool, ◌&&◌, T, ◌⊎◌, List, None, sym, subst, inl, inr, arith}
 use Rattle.std.proofs.lemmas.Bool.{cases_eq, cases_Bool}
-use Rattle.graph.specs.Edges.{Edges, Within}
+use Rattle.graph.specs.Edges.{Edges}
 use Rattle.graph.specs.Nodes.{has}
-use Rattle.graph.specs.Orders.{Test, Free, Picks, Ordered, AmongRest, Orders}
+use Rattle.graph.specs.Orders.{Test, Picks, Ordered, AmongRest, Orders}
 use Rattle.graph.specs.Paths.{Relation, Path, edge, ◌then◌, Cycle, ◌∈◌}
 use Rattle.graph.proofs.Orders.{Passing, minus, minus_parts, minus_both, ordered_end, ordered_only, ordered_distinct, ordered_forward, ordered_whole}
 use Rattle.graph.proofs.Parts.{T-both, T-parts}

@@ -1,5 +1,5 @@
 -- The bits of words: what a union, an added and a removed node do to each one.
-use Rattle.std.proofs.Common.{◌≡◌, ℕ, zero, suc, ◌+◌, ◌-◌, ◌*◌, ◌/◌, ◌%◌, ◌^◌, ◌<◌, ◌≤◌, min, max, Bool, true, false, not, ◌&&◌, ◌||◌, eqb, ltb, ◌⊎◌, sym, refl, ap, ◌∙◌, subst, inl, inr, ⊎_elim, pow-suc, one-add, arith, pow_pos}
+use Rattle.std.proofs.Common.{◌≡◌, ℕ, zero, suc, ◌+◌, ◌-◌, ◌*◌, ◌/◌, ◌%◌, ◌^◌, ◌<◌, ◌≤◌, min, max, Bool, true, false, not, ◌&&◌, ◌||◌, eqb, ltb, ◌⊎◌, sym, refl, ap, ◌∙◌, inl, inr, pow-suc, one-add, arith, pow_pos}
 use lib.Bits.{bit_and, bit_or, and_step, or_step, and_shr, or_shr, and_mask, and_lt, or_lt, or_disjoint}
 use lib.Count.{count_trailing_zeros}
 use lib.Dec.{eqb-suc-zero, eqb-zero-suc, eqb-suc-suc}

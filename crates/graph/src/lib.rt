@@ -6,6 +6,8 @@
 // path     path search
 // order    the order of the nodes of a set, by keys and edges
 // cycle    cycles of a part of a graph
+#![tactic(auto)]
+
 pub mod cycle;
 pub mod graph;
 pub mod list;

@@ -1,6 +1,5 @@
-use Rattle.std.proofs.Common.{◌≡◌, ◌-◌, ◌^◌, ◌<◌, ltb, sym, ap, ◌∙◌, arith, pow_pos}
+use Rattle.std.proofs.Common.{◌≡◌, ltb, sym, ap, ◌∙◌, arith, pow_pos}
 use Rattle.std.proofs.lemmas.Nat.{one_shl}
-use Rattle.graph.specs.Nodes.{has}
 use Rattle.graph.proofs.Words.{bit_low}
 use Rattle.graph.proofs.nodes.below.Goals as goal
 

@@ -1,4 +1,4 @@
-use Rattle.std.proofs.Common.{◌<◌, take, ◌∙◌, arith}
+use Rattle.std.proofs.Common.{take, ◌∙◌, arith}
 use Rattle.std.proofs.lemmas.List.{length-set}
 use Rattle.graph.proofs.Orders.{placed_space, placed_next, placed_all}
 use Rattle.graph.proofs.Stuck.{ordered_orders}

@@ -1,6 +1,5 @@
-use Rattle.std.proofs.Common.{◌≡◌, ℕ, ◌<◌, ltb, sym, ap, ◌∙◌}
+use Rattle.std.proofs.Common.{◌≡◌, ℕ, ltb, sym, ap, ◌∙◌}
 use Rattle.std.proofs.lemmas.Bool.{both_ways}
-use Rattle.graph.specs.Edges.{Edges}
 use Rattle.graph.specs.Nodes.{has}
 use Rattle.graph.proofs.Reach.{set_edge, edge_set, begins_inside, reaching_first, reaching_all, reaching_more, reaching_less}
 use Rattle.graph.proofs.path.reaches.Goals as goal

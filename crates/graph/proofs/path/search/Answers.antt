@@ -1,10 +1,6 @@
-use Rattle.std.proofs.Common.{◌≡◌, ℕ, ◌<◌, ◌≤◌, true, false, T, get_or, Some, None, sym, refl, ◌∙◌, subst, arith}
-use Rattle.std.proofs.lemmas.Bool.{cases_Bool, both_ways}
+use Rattle.std.proofs.Common.{◌<◌, T, get_or, sym, refl, ◌∙◌, subst, arith}
 use Rattle.graph.specs.Edges.{Edges}
-use Rattle.graph.specs.Nodes.{has}
-use Rattle.graph.specs.Paths.{Relation, Path, edge, ◌then◌}
 use Rattle.graph.proofs.Search.{Ended, at_found, room, searched_none, searching_none, searching_skip, searching_noted, searched_more, ended_all, ended_found, ended_at, ended_none, way_shown, shows_finds}
-use Rattle.graph.proofs.path.search.Given as given
 use Rattle.graph.proofs.path.search.Goals as goal
 use Rattle.graph.proofs.path.search.Goals.{then-leads+else-to-goal, else-leads, else-search-test, then-search-test+then-loop-to-test+then-leads+then-to-goal}
 

@@ -1,4 +1,4 @@
-use Rattle.std.proofs.Common.{◌≡◌, ◌-◌, ◌<◌, ◌≤◌, None}
+use Rattle.std.proofs.Common.{◌≡◌, ◌-◌, None}
 use Rattle.graph.specs.Edges.{Edges}
 use Rattle.graph.proofs.Search.{Searched, Searching}
 use Rattle.graph.proofs.path.search.Given as goal

@@ -1,4 +1,4 @@
-use Rattle.std.proofs.Common.{eqb, refl, ◌∙◌}
+use Rattle.std.proofs.Common.{refl, ◌∙◌}
 use Rattle.std.proofs.lemmas.Bool.{lt-ltb}
 use Rattle.graph.proofs.Words.{bit_none}
 use Rattle.graph.proofs.path.Found.start.Goals as goal

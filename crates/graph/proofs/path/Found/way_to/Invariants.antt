@@ -1,4 +1,4 @@
-use Rattle.std.proofs.Common.{◌≡◌, ◌+◌, ◌<◌, ◌≤◌, [], length, get_or, take, drop}
+use Rattle.std.proofs.Common.{◌≡◌, ◌<◌, ◌≤◌, [], length, take, drop}
 use Rattle.graph.specs.Search.{way_before}
 use Rattle.graph.proofs.path.Found.way_to.Given as goal
 
