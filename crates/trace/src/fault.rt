@@ -6,14 +6,14 @@ ghost use Rattle.trace.specs.declared.fault.LineCause.TheVariants.{Field};
 ghost use Rattle.trace.specs.declared.fault.ReadRefusal.TheVariants.{Line};
 
 // What is wrong with a field that is filled and has to be a number.
-#[derive(Clone, Copy)]
+#[derive(Clone, Copy, PartialEq, Eq, Debug)]
 pub enum NumberFault {
     AboveLimit,
     NotANumber,
 }
 
 // The fields behind the kind letter.
-#[derive(Clone, Copy)]
+#[derive(Clone, Copy, PartialEq, Eq, Debug)]
 pub enum Column {
     Job,
     Item,
@@ -34,7 +34,7 @@ impl Column {
 }
 
 // The first field at fault in a line of four: which one, and what is wrong with it.
-#[derive(Clone, Copy)]
+#[derive(Clone, Copy, PartialEq, Eq, Debug)]
 pub enum FieldFault {
     NoKind,
     Number { column: Column, fault: NumberFault },
@@ -55,7 +55,7 @@ impl From<(Column, NumberFault)> for FieldFault {
 }
 
 // What is wrong with a line.
-#[derive(Clone, Copy)]
+#[derive(Clone, Copy, PartialEq, Eq, Debug)]
 pub enum LineCause {
     Unended,
     FewFields,
@@ -64,14 +64,14 @@ pub enum LineCause {
 }
 
 // Where a line stands: its number, from 1, and the place of its first byte, from 0.
-#[derive(Clone, Copy)]
+#[derive(Clone, Copy, PartialEq, Eq, Debug)]
 pub struct LinePlace {
     pub line: usize,
     pub start: usize,
 }
 
 // A line at fault: where it stands, and what is wrong with it.
-#[derive(Clone, Copy)]
+#[derive(Clone, Copy, PartialEq, Eq, Debug)]
 pub struct LineFault {
     pub place: LinePlace,
     pub what: LineCause,
@@ -135,7 +135,7 @@ fn column_number(column: Column) -> u32
 
 // Why a trace is not read to its end: a line at fault, or a good line for which the lent list has no
 // place left.
-#[derive(Clone, Copy)]
+#[derive(Clone, Copy, PartialEq, Eq, Debug)]
 pub enum ReadRefusal {
     Line(LineFault),
     Full { line: usize },
@@ -163,7 +163,7 @@ impl From<LineFault> for ReadRefusal {
 }
 
 // Why an act is not written: no line may name its item, or its line does not fit the lent bytes.
-#[derive(Clone, Copy)]
+#[derive(Clone, Copy, PartialEq, Eq, Debug)]
 pub enum WriteRefusal {
     ItemAboveLimit { item: u32 },
     DoesNotFit { length: usize },

@@ -1,5 +1,5 @@
 -- A line that has four fields. Rests on the laws of pieces.
-use Rattle.std.proofs.Common.{◌≡◌, ℕ, ◌-◌, ◌<◌, ◌≤◌, eqb, List, [], ◌∷◌, length, get_or, drop, Some, None, Err, sym, refl, ap, ◌∙◌, subst, inl, inr, arith}
+use Rattle.std.proofs.Common.{◌≡◌, ℕ, ◌<◌, ◌≤◌, eqb, List, [], ◌∷◌, length, get_or, drop, Some, None, Err, sym, refl, ap, ◌∙◌, subst, inl, inr, arith}
 use Rattle.trace.specs.declared.fault.FieldFault.TheVariants.{NoKind}
 use Rattle.trace.specs.declared.fault.LineCause.TheVariants.{Field}
 use Rattle.std.proofs.lemmas.Bool.{cases_Bool, ne_eqb, eqb-true}

@@ -24,33 +24,33 @@ kept bytes entry exit r e l = record {
   writes_back = subst₂ (WritesBack bytes) (sym l) (sym e) (writes_back bytes entry);
 }
 
-pub returns-in-err-act : goal.returns-in-err-act
-returns-in-err-act c =
-    let p = err_from_is_err_and c.from-residual.result c.from-residual.ensures.1 in
-    let e = part_line (place_of (c.loop-start.count + 1) c.loop-start.start) c.args.bytes.now c.loop-start.start _ c.in-err-act.ensures in
+pub returns-in_err-act : goal.returns-in_err-act
+returns-in_err-act c =
+    let p = err_from_is_err_and c.from_residual.result c.from_residual.ensures.1 in
+    let e = part_line (place_of (c.loop-start.count + 1) c.loop-start.start) c.args.bytes.now c.loop-start.start _ c.in_err-act.ensures in
     let s = sofar_bad c.args.bytes.now c.args.steps.now c.loop-start.steps c.loop-start.count c.loop-start.start _ c.loop-start.invariant c.loop-start-test.true e in
     kept c.args.bytes.now c.args.steps.now _ _ (rw (p.1, p.2) s.0) s.1
 
 pub returns-then-count-steps : goal.returns-then-count-steps
 returns-then-count-steps c =
-    let e = part_line (place_of (c.loop-start.count + 1) c.loop-start.start) c.args.bytes.now c.loop-start.start _ c.in-ok-act.ensures in
+    let e = part_line (place_of (c.loop-start.count + 1) c.loop-start.start) c.args.bytes.now c.loop-start.start _ c.in_ok-act.ensures in
     let s = sofar_full c.args.bytes.now c.args.steps.now c.loop-start.steps c.loop-start.count c.loop-start.start _ _ c.loop-start.invariant c.if-count-steps.true e in
     kept c.args.bytes.now c.args.steps.now _ _ s.0 s.1
 
-pub overflow-add-start : goal.overflow-add-start
-overflow-add-start c =
-    let e = part_line (place_of (c.loop-start.count + 1) c.loop-start.start) c.args.bytes.now c.loop-start.start _ c.in-ok-act.ensures in
+pub overflow_add-start : goal.overflow_add-start
+overflow_add-start c =
+    let e = part_line (place_of (c.loop-start.count + 1) c.loop-start.start) c.args.bytes.now c.loop-start.start _ c.in_ok-act.ensures in
     omega (arith, line_within _ _ _ _ _ e c.loop-start.invariant.within)
 
 pub loop-start-smaller : goal.loop-start-smaller
 loop-start-smaller c =
-    let e = part_line (place_of (c.loop-start.count + 1) c.loop-start.start) c.args.bytes.now c.loop-start.start _ c.in-ok-act.ensures in
+    let e = part_line (place_of (c.loop-start.count + 1) c.loop-start.start) c.args.bytes.now c.loop-start.start _ c.in_ok-act.ensures in
     omega (arith, line_within _ _ _ _ _ e c.loop-start.invariant.within)
 
 pub loop-start-preserved : goal.loop-start-preserved
 loop-start-preserved c =
-    let e = part_line (place_of (c.loop-start.count + 1) c.loop-start.start) c.args.bytes.now c.loop-start.start _ c.in-ok-act.ensures in
-    subst (λ l. Sofar c.args.bytes.now c.args.steps.now l (c.loop-start.count + 1) (c.loop-start.start + c.in-ok-act.length)) (sym c.put-step.ensures)
+    let e = part_line (place_of (c.loop-start.count + 1) c.loop-start.start) c.args.bytes.now c.loop-start.start _ c.in_ok-act.ensures in
+    subst (λ l. Sofar c.args.bytes.now c.args.steps.now l (c.loop-start.count + 1) (c.loop-start.start + c.in_ok-act.length)) (sym c.put_step.ensures)
     (sofar_more c.args.bytes.now c.args.steps.now c.loop-start.steps c.loop-start.count c.loop-start.start _ _ c.loop-start.invariant (omega arith) e)
 
 pub returns : goal.returns
