@@ -5,8 +5,8 @@ use Rattle.verdict.proofs.Ledgers.{runs_there, runs_not}
 use Rattle.verdict.proofs.Drawing.{clash_read, keeps_read}
 use Rattle.verdict.proofs.reading.read.Goals as goal
 
-pub returns-in-default : goal.returns-in-default
-returns-in-default c value = (refl, runs_not (acts (take c.args.index c.args.steps.now)) c.args.ledger.now c.requires.1 c.args.job c.in-default.ensures)
+pub returns-in_default : goal.returns-in_default
+returns-in_default c value = (refl, runs_not (acts (take c.args.index c.args.steps.now)) c.args.ledger.now c.requires.1 c.args.job c.in_default.ensures)
 
 pub returns : goal.returns
 returns c value =
