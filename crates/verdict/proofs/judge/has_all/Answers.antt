@@ -1,4 +1,4 @@
-use Rattle.std.proofs.Common.{◌≡◌, ℕ, take, ap, subst, inl, arith}
+use Rattle.std.proofs.Common.{◌≡◌, take, subst, inl, arith}
 use Rattle.verdict.proofs.Missing.{Missing, missing_more, missing_none, all_there}
 use Rattle.verdict.proofs.judge.has_all.Goals as goal
 

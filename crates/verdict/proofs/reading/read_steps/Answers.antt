@@ -2,11 +2,11 @@ use Rattle.std.proofs.Common.{Err, sym, ap, ◌∙◌, subst, arith}
 use Rattle.std.proofs.lemmas.Result.{err_from_is_err_and}
 use Rattle.verdict.specs.Ledgers.{ReadsSteps}
 use Rattle.verdict.specs.Turns.{acts}
-use Rattle.verdict.proofs.Steps.{Read-upto, read_none, read_more, read_refused, read_all}
+use Rattle.verdict.proofs.Steps.{ReadUpto, read_none, read_more, read_refused, read_all}
 use Rattle.verdict.proofs.reading.read_steps.Goals as goal
 
 pub loop-index-init : goal.loop-index-init
-loop-index-init c = subst (Read-upto c.args.steps.now 0) (sym c.new-ledger.ensures) (read_none c.args.steps.now)
+loop-index-init c = subst (ReadUpto c.args.steps.now 0) (sym c.new-ledger.ensures) (read_none c.args.steps.now)
 
 pub returns-in_err-follow : goal.returns-in_err-follow
 returns-in_err-follow c =
