@@ -1,13 +1,13 @@
 -- A serial arrangement that is conflict equivalent rules out a cycle, and a serial order gives one.
 -- Assumes nothing.
-use Rattle.std.proofs.Common.{◌≡◌, ℕ, suc, ◌+◌, ◌<◌, ◌≤◌, Bool, true, false, cond, T, eqb, ◌⊎◌, List, [], ◌∷◌, ◌++◌, get_or, sym, refl, ap, ◌∙◌, subst, subst₂, inl, inr, ⊎_elim, arith}
-use Rattle.std.proofs.lemmas.Bool.{cases_eq, eq-eqb, ne_eqb, eqb-true, eqb-false, cases_Bool}
+use Rattle.std.proofs.Common.{◌≡◌, ℕ, suc, ◌<◌, true, false, cond, eqb, List, [], ◌∷◌, get_or, sym, refl, ap, ◌∙◌, subst, subst₂, inl, inr, ⊎_elim, arith}
+use Rattle.std.proofs.lemmas.Bool.{cases_eq, eq-eqb, ne_eqb}
 use Rattle.trace.specs.declared.act.Act.{Act}
 use Rattle.trace.specs.declared.act.Act.TheVariants.{Open, Read, Write, Commit, Abort, Peek, Retire}
-use Rattle.graph.specs.Paths.{Path, edge, ◌then◌, Cycle, ◌∈◌, Distinct, Forward}
+use Rattle.graph.specs.Paths.{Path, edge, ◌then◌, Cycle, ◌∈◌}
 use Rattle.history.specs.Acts.{Keep, Kept}
-use Rattle.history.specs.Conflicts.{Access, accesses, Conflict, Meets, Leads, Edge, SerialOrder}
-use Rattle.history.specs.Arrangements.{Is, Stands, Precedes, Ordered, Equivalent, SerialArrangement, ConflictSerializable}
+use Rattle.history.specs.Conflicts.{Access, accesses, Conflict, Meets, Leads, Edge}
+use Rattle.history.specs.Arrangements.{Is, Stands, Precedes, Equivalent, SerialArrangement}
 
 abbrev reading : ℕ → ℕ → ℕ → Access
 reading j x v = record { job = j; item = x; writes = false; value = v }

@@ -1,13 +1,13 @@
 -- A serial order exists exactly where the conflict graph has no cycle, and so does a serial arrangement
 -- that is conflict equivalent. Assumes nothing.
-use Rattle.std.proofs.Common.{◌≡◌, ℕ, suc, ◌<◌, ◌≤◌, max, Bool, true, false, cond, not, ◌&&◌, ◌||◌, T, eqb, ◌⊎◌, ◌↔◌, List, [], ◌∷◌, sym, refl, ap, ◌∙◌, subst, inl, inr, arith}
+use Rattle.std.proofs.Common.{◌≡◌, ℕ, suc, ◌<◌, ◌≤◌, max, Bool, true, false, cond, not, ◌&&◌, ◌||◌, T, eqb, List, [], ◌∷◌, refl, ap, ◌∙◌, subst, inl, inr, arith}
 use Rattle.std.proofs.lemmas.Bool.{cases_lt, eqb-true, eq-eqb, eqb-false, ne_eqb, and_parts, and_from, or_cases, or_left, or_right, not-true, not_from_false}
 use Rattle.trace.specs.declared.act.Act.{Act}
 use Rattle.trace.specs.declared.act.Act.TheVariants.{Open, Read, Write, Commit, Abort, Peek, Retire}
 use Rattle.graph.proofs.Paths.{path_map}
-use Rattle.graph.specs.Paths.{Relation, Path, edge, Cycle, ◌∈◌, Forward}
-use Rattle.history.specs.Acts.{Fate, unopened, after, fate_from, fate, Keep, Kept}
-use Rattle.history.specs.Arrangements.{ConflictSerializable, SerializableExactlyWithoutCycle}
+use Rattle.graph.specs.Paths.{Path, edge, Cycle, ◌∈◌}
+use Rattle.history.specs.Acts.{Fate, unopened, fate_from, fate, Keep, Kept}
+use Rattle.history.specs.Arrangements.{SerializableExactlyWithoutCycle}
 use Rattle.history.specs.Conflicts.{Access, accesses, Conflict, Meets, Leads, Edge, SerialOrder}
 use Rattle.history.specs.Machine.{rising, those, path}
 use Rattle.history.proofs.Arrangements.{arrangement_has_no_cycle}

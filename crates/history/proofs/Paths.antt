@@ -3,7 +3,7 @@
 use Rattle.std.proofs.Common.{◌≡◌, ℕ, Bool, true, not, ◌&&◌, ◌⊎◌, List, [], ◌∷◌, ◌++◌, subst, inl, inr}
 use Rattle.std.proofs.lemmas.Bool.{cases_Bool, or_cases, or_left, or_right, and_parts, and_from, not_from_true, not_from_false}
 use Rattle.graph.specs.Paths.{Relation, Path, edge, ◌then◌, Cycle, ◌∈◌, Distinct, Forward}
-use Rattle.graph.proofs.Paths.{path_map, path_join}
+use Rattle.graph.proofs.Paths.{path_join}
 use Rattle.history.specs.Machine.{those, path}
 use Rattle.history.proofs.Lists.{true_not_false, ∈-split, ∈-left, ∈-right, ∈-those, those-∈, forward_join, forward_those, distinct_those, distinct_join}
 

@@ -5,6 +5,8 @@
 // refusal  why a hub says no
 // holding  who holds an item
 // promises what is proved of the machine
+#![tactic(auto)]
+
 pub mod holding;
 pub mod promises;
 pub mod refusal;

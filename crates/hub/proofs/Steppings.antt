@@ -6,7 +6,7 @@ use Rattle.history.specs.declared.refusal.Refusal.TheVariants.{ItemNotServed, No
 use Rattle.history.specs.Machine.{State, peek, commit, answered, done, refused, refusal, granted_answer, granted_state, refused_state, put_count, refuse_if, not_running, holdings, has_ended, put_all, by_refusal, done_or_refusal, ◌else◌, Steps, Commits}
 use Rattle.store.specs.Stores.{at}
 use Rattle.scheduler.specs.Cores.{machine, Ends}
-use Rattle.scheduler.specs.declared.core.Core.{Core}
+use Rattle.scheduler.specs.declared.hub_core.Core.{Core}
 use Rattle.scheduler.specs.Reading.{state}
 use Rattle.scheduler.proofs.States.{steps_refused, steps_granted}
 use Rattle.hub.specs.Asking.{MayCommit, Shows}

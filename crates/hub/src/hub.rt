@@ -8,7 +8,7 @@ ghost use Rattle.hub.specs.Putting.{LeavesIfRefused, PutsIfGranted, PutInTurn, h
 
 use super::putting::put_held;
 use history::refusal::Refusal;
-use scheduler::core::Core;
+use scheduler::hub_core::Core;
 use store::Store;
 
 // A scheduler with no jobs. Every run that begins with it is serializable, whatever the store is.

@@ -4,7 +4,7 @@ ghost use Rattle.history.specs.Machine.{holdings};
 ghost use Rattle.scheduler.specs.Cores.{machine, held_in};
 ghost use Rattle.hub.specs.Putting.{PutAll, PutBelow, PutInTurn, held_pairs};
 
-use scheduler::core::Core;
+use scheduler::hub_core::Core;
 use store::Store;
 
 // Puts what the job holds at an item, if it holds it: those below it had their turn, and now it has.

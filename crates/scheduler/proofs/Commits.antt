@@ -1,17 +1,17 @@
 -- Commit: how many items the job holds, and what the tables stand for afterwards. Assumes nothing.
-use Rattle.std.proofs.Common.{◌≡◌, ℕ, zero, suc, ◌+◌, ◌<◌, ◌≤◌, min, Bool, true, false, cond, not, ◌&&◌, eqb, ◌⊎◌, List, [], ◌∷◌, ◌++◌, length, get_or, set, sym, refl, ap, ◌∙◌, subst, inl, inr, add-zero, add-one, arith}
+use Rattle.std.proofs.Common.{◌≡◌, ℕ, zero, suc, ◌+◌, Bool, true, false, cond, ◌&&◌, eqb, List, [], ◌∷◌, ◌++◌, length, set, sym, refl, ap, ◌∙◌, inl, inr, add-zero, add-one, arith}
 use Rattle.std.proofs.lemmas.Bool.{cases_Bool, cases_eq, eq-eqb, ne_eqb, both_ways}
 use Rattle.std.proofs.lemmas.List.{get_or-set_same, get_or-set_other, length-set, length-append}
 use Rattle.graph.specs.Nodes.{has}
-use Rattle.history.specs.Machine.{State, Status, committed, those, rising, holds, holdings, has_ended, put_all, put_at}
+use Rattle.history.specs.Machine.{Status, committed, those, rising, holds, holdings, has_ended, put_all, put_at}
 use Rattle.scheduler.specs.declared.slots.Slot.{Slot}
-use Rattle.scheduler.specs.declared.slots.SlotStatus.TheVariants.{Running, Committed}
+use Rattle.scheduler.specs.declared.slots.SlotStatus.TheVariants.{Committed}
 use Rattle.scheduler.specs.declared.tables.ItemState.{ItemState}
 use Rattle.scheduler.specs.declared.tables.Tables.{Tables}
 use Rattle.scheduler.specs.Slots.{status_of, taken, belongs, free_slot, slot, slot_of}
 use Rattle.scheduler.specs.Reading.{item, row, state, Taken, Sound, RunsAt, held_below}
 use Rattle.scheduler.specs.Marks.{ItemsLetGo}
-use Rattle.scheduler.proofs.Draws.{tell, mine}
+use Rattle.scheduler.proofs.Draws.{tell}
 use Rattle.scheduler.proofs.JobSlots.{first_same}
 use Rattle.scheduler.proofs.States.{same_state, put_same, put_other}
 

@@ -1,12 +1,12 @@
 -- What the scheduler's type keeps, and its calls for one job. Assumes nothing.
-use Rattle.std.proofs.Common.{◌≡◌, ℕ, ◌≤◌, min, List, length, None, sym, refl, ap, ◌∙◌, subst, arith}
+use Rattle.std.proofs.Common.{◌≡◌, ℕ, ◌≤◌, min, List, length, None, sym, ap, ◌∙◌, arith}
 use Rattle.std.proofs.lemmas.List.{get_or_past}
-use Rattle.history.specs.Machine.{holdings, those, rising, holds}
-use Rattle.scheduler.specs.declared.core.Core.{Core}
+use Rattle.history.specs.Machine.{holdings}
+use Rattle.scheduler.specs.declared.hub_core.Core.{Core}
 use Rattle.scheduler.specs.declared.tables.ItemState.{ItemState}
 use Rattle.scheduler.specs.declared.tables.Tables.{Tables}
 use Rattle.scheduler.specs.Cores.{value_of, held_by}
-use Rattle.scheduler.specs.Reading.{idle, item, state, Sound, held_below}
+use Rattle.scheduler.specs.Reading.{idle, state, Sound, held_below}
 
 pub kept_sound : (core : Core) → Sound core.tables
 kept_sound core = (

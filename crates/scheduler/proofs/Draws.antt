@@ -1,23 +1,21 @@
 -- The edges of a step, by slot and by job: they close the same cycles. Assumes nothing.
-use Rattle.std.proofs.Common.{◌≡◌, ℕ, ◌+◌, ◌<◌, ◌≤◌, Bool, true, false, cond, not, ◌&&◌, ◌||◌, T, eqb, ltb, ◌⊎◌, List, length, get_or, set, sym, refl, ap, ◌∙◌, subst, subst₂, inl, inr, arith}
-use Rattle.std.proofs.lemmas.Bool.{cases_Bool, cases_eq, cases_lt, eqb-true, eq-eqb, ne_eqb, and_parts, both_ways, or_cases, and_from, lt-ltb, true≢false, false≢true}
+use Rattle.std.proofs.Common.{◌≡◌, ℕ, ◌<◌, Bool, true, false, not, ◌&&◌, ◌||◌, eqb, ltb, List, length, set, sym, refl, ap, ◌∙◌, subst, subst₂, inl, inr, arith}
+use Rattle.std.proofs.lemmas.Bool.{cases_Bool, cases_eq, eqb-true, eq-eqb, ne_eqb, and_parts, or_cases, and_from, lt-ltb, true≢false, false≢true}
 use Rattle.std.proofs.lemmas.List.{get_or-set_same, get_or-set_other}
 use Rattle.graph.specs.Edges.{Edges}
 use Rattle.graph.specs.Nodes.{has}
 use Rattle.graph.specs.Rows.{marked}
 use Rattle.graph.proofs.Paths.{path_map}
 use Rattle.graph.specs.Paths.{Relation, Path, edge, ◌then◌, ◌∈◌}
-use Rattle.history.specs.Machine.{State, jobs, those, rising, present, path, drawn, draws_from, closes_cycle}
+use Rattle.history.specs.Machine.{jobs, rising, present, drawn, draws_from, closes_cycle}
 use Rattle.history.proofs.Lists.{T_true, true_T, ∈-those, ∈-rising}
 use Rattle.history.proofs.Paths.{Drawn, path_sound, path_found}
-use Rattle.scheduler.specs.declared.slots.Slot.{Slot}
-use Rattle.scheduler.specs.declared.tables.ItemState.{ItemState}
 use Rattle.scheduler.specs.declared.tables.Tables.{Tables}
-use Rattle.scheduler.specs.Slots.{status_of, taken, belongs, slot, slot_of}
+use Rattle.scheduler.specs.Slots.{status_of, belongs, slot, slot_of}
 use Rattle.scheduler.specs.Reading.{item, row, state, Taken, Sound}
 use Rattle.scheduler.specs.Marks.{Sources, Draws, slot_edge, TellsPath, TellsCycle}
 use Rattle.scheduler.proofs.Counting.{present_taken}
-use Rattle.scheduler.proofs.Sounds.{belongs_taken, belongs_number, taken_within, slot_mine, slot_missing, slot_of_number, slots_tell}
+use Rattle.scheduler.proofs.Sounds.{belongs_taken, belongs_number, taken_within, slot_mine, slot_of_number, slots_tell}
 
 pub or_false : (b : Bool) → (b || false) ≡ b
 or_false true = refl

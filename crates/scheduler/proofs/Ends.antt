@@ -1,8 +1,8 @@
 -- Calls for a job that does not run, and an abort of one that does. Assumes nothing.
-use Rattle.std.proofs.Common.{◌≡◌, ℕ, ◌≤◌, List, Some, None, Option, sym, refl, ap, ◌∙◌, subst, arith}
+use Rattle.std.proofs.Common.{◌≡◌, ℕ, ◌≤◌, List, Some, None, sym, refl, ap, ◌∙◌, arith}
 use Rattle.history.specs.declared.refusal.Refusal.{Refusal}
 use Rattle.history.specs.declared.refusal.Refusal.TheVariants.{NotPresent}
-use Rattle.history.specs.Machine.{State, Status, running, not_running, abort, refusal, granted_answer, granted_state, refused_state, put_count, done, refused, removed, Steps}
+use Rattle.history.specs.Machine.{not_running, abort, refusal, granted_answer, granted_state, refused_state, put_count, done, refused, removed, Steps}
 use Rattle.scheduler.specs.declared.slots.Slot.{Slot}
 use Rattle.scheduler.specs.declared.tables.Tables.{Tables}
 use Rattle.scheduler.specs.Slots.{status_of, slot, slot_of}

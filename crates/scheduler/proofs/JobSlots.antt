@@ -1,9 +1,9 @@
 -- The slot of a job: how it is found, and what it is where slots change. Assumes nothing.
-use Rattle.std.proofs.Common.{◌≡◌, ℕ, zero, suc, pred, ◌+◌, ◌<◌, ◌≤◌, Bool, true, false, cond, ◌&&◌, eqb, ◌≢◌, ◌⊎◌, List, [], ◌∷◌, length, get_or, drop, set, sym, refl, ap, ◌∙◌, subst, inl, inr, ⊎_elim, arith}
-use Rattle.std.proofs.lemmas.Bool.{cases_Bool, true≢false}
+use Rattle.std.proofs.Common.{◌≡◌, ℕ, zero, suc, ◌+◌, ◌<◌, ◌≤◌, Bool, true, false, cond, List, [], ◌∷◌, length, get_or, drop, sym, refl, ap, ◌∙◌, subst, ⊎_elim, arith}
+use Rattle.std.proofs.lemmas.Bool.{cases_Bool}
 use Rattle.std.proofs.lemmas.List.{drop_more, drop_all}
 use Rattle.scheduler.specs.declared.slots.Slot.{Slot}
-use Rattle.scheduler.specs.Slots.{taken, belongs, free_slot, slot, first, slot_of}
+use Rattle.scheduler.specs.Slots.{slot, first}
 
 module _ (p : Slot → Bool) where
   first_here : (s : Slot) (ss : List Slot) → p s ≡ true → first p (s ∷ ss) ≡ 0

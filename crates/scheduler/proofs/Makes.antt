@@ -1,13 +1,13 @@
 -- The tables of a hub that was just made. Assumes nothing.
-use Rattle.std.proofs.Common.{◌≡◌, ℕ, zero, suc, ◌<◌, ◌≤◌, Bool, true, false, List, length, get_or, replicate, sym, refl, ap, ◌∙◌, subst, arith}
-use Rattle.std.proofs.lemmas.Bool.{both_ways, false≢true}
+use Rattle.std.proofs.Common.{◌≡◌, ℕ, zero, suc, ◌≤◌, false, List, get_or, replicate, refl, ap, ◌∙◌}
+use Rattle.std.proofs.lemmas.Bool.{both_ways}
 use Rattle.graph.specs.Nodes.{has}
 use Rattle.graph.proofs.Words.{bit_none}
 use Rattle.history.specs.Machine.{made}
 use Rattle.scheduler.specs.declared.slots.Slot.{Slot}
 use Rattle.scheduler.specs.declared.tables.ItemState.{ItemState}
 use Rattle.scheduler.specs.declared.tables.Tables.{Tables}
-use Rattle.scheduler.specs.Slots.{status_of, taken, belongs, free_slot, slot, slot_of}
+use Rattle.scheduler.specs.Slots.{status_of, belongs, free_slot, slot, slot_of}
 use Rattle.scheduler.specs.Reading.{idle, item, row, state, Sound}
 use Rattle.scheduler.proofs.States.{same_state}
 

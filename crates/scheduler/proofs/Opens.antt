@@ -1,11 +1,11 @@
 -- A job that gets the first free slot and the next number. Assumes nothing.
-use Rattle.std.proofs.Common.{◌≡◌, ℕ, suc, ◌+◌, ◌<◌, ◌≤◌, Bool, true, false, cond, not, ◌&&◌, ◌||◌, eqb, ltb, leb, ◌≢◌, ◌⊎◌, List, length, get_or, set, Some, None, sym, refl, ap, ◌∙◌, subst, inl, inr, ⊎_elim, add-one, arith}
-use Rattle.std.proofs.lemmas.Bool.{cases_Bool, cases_eq, cases_lt, eqb-true, eq-eqb, ne_eqb, both_ways, true≢false, not-true, le-ltb, lt-leb, le-leb}
-use Rattle.std.proofs.lemmas.List.{get_or_past, get_or-set_same, get_or-set_other, length-set}
+use Rattle.std.proofs.Common.{◌≡◌, ℕ, ◌+◌, ◌<◌, ◌≤◌, Bool, true, false, ltb, leb, ◌⊎◌, List, length, set, Some, sym, refl, ap, ◌∙◌, subst, inl, inr, add-one, arith}
+use Rattle.std.proofs.lemmas.Bool.{cases_eq, cases_lt, eqb-true, eq-eqb, ne_eqb, both_ways, not-true, le-ltb, lt-leb, le-leb}
+use Rattle.std.proofs.lemmas.List.{get_or-set_same, get_or-set_other, length-set}
 use Rattle.graph.specs.Nodes.{has}
 use Rattle.history.specs.declared.refusal.Refusal.{Refusal}
 use Rattle.history.specs.declared.refusal.Refusal.TheVariants.{TableFull, NumbersSpent}
-use Rattle.history.specs.Machine.{State, Status, running, begin, jobs, those, rising, present, opened, put_at, refusal, granted_answer, granted_state, refused_state, put_count, answered, refused, Steps, ◌else◌, refuse_if}
+use Rattle.history.specs.Machine.{Status, running, begin, jobs, those, rising, present, opened, put_at, refusal, granted_answer, granted_state, refused_state, put_count, answered, refused, Steps, ◌else◌, refuse_if}
 use Rattle.scheduler.specs.declared.slots.Slot.{Slot}
 use Rattle.scheduler.specs.declared.slots.SlotStatus.TheVariants.{Running}
 use Rattle.scheduler.specs.declared.tables.Tables.{Tables}
@@ -14,7 +14,7 @@ use Rattle.scheduler.specs.Reading.{item, row, state, Taken, Sound, MayOpen}
 use Rattle.scheduler.proofs.Counting.{table_full, table_has_room}
 use Rattle.scheduler.proofs.JobSlots.{first_within, first_passes, first_only, first_same}
 use Rattle.scheduler.proofs.Sounds.{belongs_taken, free_belongs, free_no_edge, free_no_row, free_no_reader, free_no_writer, slot_missing}
-use Rattle.scheduler.proofs.States.{SameState, same_state, put_same, put_other, steps_refused, steps_granted}
+use Rattle.scheduler.proofs.States.{same_state, put_same, put_other, steps_refused, steps_granted}
 
 -- a slot of a running job
 abbrev pub settled : ℕ → Slot

@@ -1,15 +1,15 @@
 -- How a read and a write step: refused before the edges are asked, refused by them, or granted. Assumes
 -- nothing.
-use Rattle.std.proofs.Common.{◌≡◌, ℕ, ◌+◌, ◌<◌, ◌≤◌, min, Bool, true, false, cond, not, eqb, leb, List, length, get_or, Some, None, Option, sym, refl, ap, ◌∙◌, subst, inl, inr, arith}
-use Rattle.std.proofs.lemmas.Bool.{cases_Bool, lt-leb, true≢false}
+use Rattle.std.proofs.Common.{◌≡◌, ℕ, min, Bool, true, false, cond, not, eqb, leb, List, length, get_or, Some, None, Option, sym, refl, ap, ◌∙◌, inl, inr, arith}
+use Rattle.std.proofs.lemmas.Bool.{cases_Bool, lt-leb}
 use Rattle.history.specs.declared.holding.Holding.{Holding}
 use Rattle.history.specs.declared.refusal.Refusal.{Refusal}
 use Rattle.history.specs.declared.refusal.Refusal.TheVariants.{ItemNotServed, ItemHeld, ClosesCycle}
 use Rattle.history.specs.Refusals.{aborts}
-use Rattle.history.specs.Machine.{State, Status, absent, running, committed, Call, read, write, Answer, answered, done, refused, refusal, granted_answer, granted_state, refused_state, put_count, removed, has_read, has_written, not_running, not_served, refuse_if, held_by_another, ◌else◌, closes_cycle, holds, held_value, seen, served, Steps}
+use Rattle.history.specs.Machine.{State, Status, absent, running, committed, read, write, answered, done, refused, refusal, granted_answer, granted_state, refused_state, put_count, removed, has_read, has_written, not_running, not_served, refuse_if, held_by_another, ◌else◌, closes_cycle, holds, held_value, Steps}
 use Rattle.scheduler.specs.declared.tables.Tables.{Tables}
 use Rattle.scheduler.specs.Slots.{status_of, slot, slot_of}
-use Rattle.scheduler.specs.Reading.{item, state, Sound, RunsAt, Admitted, Barred}
+use Rattle.scheduler.specs.Reading.{item, state, Admitted, Barred}
 use Rattle.scheduler.proofs.States.{steps_refused, steps_granted}
 
 -- what the tests before the edges answer leaves the job as it is

@@ -1,22 +1,22 @@
 -- The job that retires next, by slot and by number. Assumes nothing.
-use Rattle.std.proofs.Common.{◌≡◌, ℕ, zero, suc, ◌+◌, ◌-◌, ◌<◌, ◌≤◌, Bool, true, false, cond, not, ◌&&◌, ◌||◌, T, eqb, ltb, ◌⊎◌, List, [], ◌∷◌, ◌++◌, map, length, get_or, Some, None, Option, sym, refl, ap, ◌∙◌, subst, inl, inr, append_assoc, append-nil, arith}
-use Rattle.std.proofs.lemmas.Bool.{cases_Bool, cases_lt, and_parts, and_from, or_cases, or_left, or_right, both_ways, lt-ltb, ltb-true, not-true, not_from_false}
+use Rattle.std.proofs.Common.{◌≡◌, ℕ, ◌<◌, ◌≤◌, Bool, true, false, not, ◌&&◌, ◌||◌, T, ltb, List, [], ◌∷◌, get_or, Some, None, Option, sym, refl, ap, ◌∙◌, subst, inl, inr, arith}
+use Rattle.std.proofs.lemmas.Bool.{cases_Bool, and_parts, and_from, both_ways, lt-ltb, not-true, not_from_false}
 use Rattle.std.proofs.lemmas.List.{get_or-map}
 use Rattle.graph.specs.Edges.{Edges}
 use Rattle.graph.specs.Nodes.{has}
-use Rattle.graph.specs.Orders.{Picks, First, Free as NoneLeads, Before}
+use Rattle.graph.specs.Orders.{Picks, First, Free as NoneLeads}
 use Rattle.graph.specs.Paths.{◌∈◌}
 use Rattle.graph.specs.Rows.{marked}
-use Rattle.history.specs.Machine.{State, Status, jobs, those, rising, any, present, has_committed, retirable, retiring, removed, all_removed}
+use Rattle.history.specs.Machine.{Status, jobs, those, rising, any, present, has_committed, retirable}
 use Rattle.history.proofs.Lists.{T_true, true_T, ∈-those, those-∈, any_true, true_any, ∈-rising, Ascending, ascending_rising, ascending_those, first_smallest}
 use Rattle.scheduler.specs.declared.slots.Slot.{Slot}
 use Rattle.scheduler.specs.declared.slots.SlotStatus.{SlotStatus}
 use Rattle.scheduler.specs.declared.slots.SlotStatus.TheVariants.{Free, Running, Committed}
 use Rattle.scheduler.specs.declared.tables.Tables.{Tables}
-use Rattle.scheduler.specs.Slots.{status_of, taken, belongs, free_slot, slot, slot_of, same_status, SlotsWith, numbers}
+use Rattle.scheduler.specs.Slots.{status_of, taken, free_slot, slot, slot_of, same_status, SlotsWith, numbers}
 use Rattle.scheduler.specs.Reading.{row, state, Taken, Sound, NextRetires}
 use Rattle.scheduler.proofs.Counting.{present_taken}
-use Rattle.scheduler.proofs.Sounds.{belongs_taken, belongs_number, taken_belongs, taken_within, slot_mine, slot_missing, slot_of_number}
+use Rattle.scheduler.proofs.Sounds.{belongs_number, taken_within, slot_mine, slot_of_number}
 
 committed_says : (st : SlotStatus) → has_committed (status_of st) ≡ same_status st Committed
 committed_says Free = refl

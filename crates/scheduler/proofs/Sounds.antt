@@ -1,6 +1,6 @@
 -- What the invariant says of slots and marks. Assumes nothing.
-use Rattle.std.proofs.Common.{◌≡◌, ℕ, ◌<◌, ◌≤◌, Bool, true, false, cond, not, ◌&&◌, ◌||◌, eqb, ◌⊎◌, List, length, get_or, sym, refl, ap, ◌∙◌, subst, inl, inr, ⊎_elim, arith}
-use Rattle.std.proofs.lemmas.Bool.{cases_Bool, cases_eq, cases_lt, eqb-true, eq-eqb, ne_eqb, and_parts, both_ways, true≢false}
+use Rattle.std.proofs.Common.{◌≡◌, ℕ, ◌<◌, ◌≤◌, Bool, true, false, not, ◌&&◌, eqb, List, length, sym, refl, ap, ◌∙◌, inl, inr, arith}
+use Rattle.std.proofs.lemmas.Bool.{cases_Bool, cases_eq, cases_lt, eqb-true, eq-eqb, ne_eqb, and_parts, both_ways}
 use Rattle.std.proofs.lemmas.List.{get_or_past}
 use Rattle.graph.specs.Nodes.{has}
 use Rattle.graph.proofs.Words.{bit_none}
@@ -9,7 +9,7 @@ use Rattle.scheduler.specs.declared.tables.Tables.{Tables}
 use Rattle.scheduler.specs.Slots.{taken, belongs, free_slot, slot, slot_of}
 use Rattle.scheduler.specs.Reading.{idle, item, row, Taken, Sound}
 use Rattle.scheduler.specs.Marks.{RowWithout, SetWithout, ItemWithout, ItemLetGo}
-use Rattle.scheduler.proofs.JobSlots.{first_within, first_passes, first_only}
+use Rattle.scheduler.proofs.JobSlots.{first_passes, first_only}
 
 -- a test that would make another true is false
 pub false_since : (b : Bool) (X : Type 0) → (b ≡ true → X) → (X → ⊥) → b ≡ false

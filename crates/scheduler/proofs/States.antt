@@ -1,9 +1,8 @@
 -- Equality of states, and how a call steps. Assumes nothing.
-use Rattle.std.proofs.Common.{◌≡◌, ℕ, ◌+◌, ◌≤◌, Bool, true, false, cond, List, Some, None, Option, sym, refl, ap, ◌∙◌, subst, arith}
+use Rattle.std.proofs.Common.{◌≡◌, ℕ, ◌+◌, ◌≤◌, cond, Some, None, sym, ap, ◌∙◌, arith}
 use Rattle.std.proofs.lemmas.Bool.{eq-eqb, ne_eqb}
-use Rattle.history.specs.declared.holding.Holding.{Holding}
 use Rattle.history.specs.declared.refusal.Refusal.{Refusal}
-use Rattle.history.specs.Machine.{State, Status, Call, Answer, refused, refusal, granted_answer, granted_state, refused_state, by_refusal, answer, after_call, put_count, put_at, Steps}
+use Rattle.history.specs.Machine.{State, Call, Answer, refused, refusal, granted_answer, granted_state, refused_state, by_refusal, answer, after_call, put_count, put_at, Steps}
 
 -- states that say the same of every job and item are equal
 pub record SameState (s t : State) : Type 0 where

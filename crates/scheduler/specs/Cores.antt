@@ -3,7 +3,7 @@ use Rattle.std.specs.Prelude.{ℕ, cond, List, Some, None, Option, Result, ◌==
 use Rattle.history.specs.declared.holding.Holding.{Holding}
 use Rattle.history.specs.declared.refusal.Refusal.{Refusal}
 use Rattle.history.specs.Machine.{State}
-use Rattle.scheduler.specs.declared.core.Core.{Core}
+use Rattle.scheduler.specs.declared.hub_core.Core.{Core}
 use Rattle.scheduler.specs.Reading.{item, state, Ended}
 
 -- the state of the machine that the scheduler stands for, over a store with these values and this room

@@ -1,12 +1,11 @@
 -- The tables of the scheduler, which go by slot, read as the state of the machine, which goes by job
 -- number. Rests on Slots and on the machine.
-use Rattle.std.specs.Prelude.{◌≡◌, ℕ, ◌+◌, ◌<◌, ◌≤◌, true, List, [], ◌∷◌, length, set, Some, None, Ok, Err, Option, Result, nat_le, nat_lt, slice_index, slice_index_or, slice_set}
+use Rattle.std.specs.Prelude.{◌≡◌, ℕ, ◌+◌, ◌<◌, ◌≤◌, true, List, [], ◌∷◌, length, Some, None, Ok, Err, Option, Result, nat_le, nat_lt, slice_index, slice_index_or, slice_set}
 use Rattle.graph.specs.Nodes.{has}
 use Rattle.history.specs.declared.refusal.Refusal.{Refusal}
 use Rattle.history.specs.declared.refusal.Refusal.TheVariants.{TableFull, NumbersSpent, ItemNotServed}
 use Rattle.history.specs.Machine.{State, not_running, refuse_if, held_by_another, ◌else◌, retirable, those, rising, holds, holdings, has_ended, put_all}
 use Rattle.scheduler.specs.declared.tables.ItemState.{ItemState}
-use Rattle.scheduler.specs.declared.tables.JobTable.{JobTable}
 use Rattle.scheduler.specs.declared.tables.Tables.{Tables}
 use Rattle.scheduler.specs.declared.slots.Slot.{Slot}
 use Rattle.scheduler.specs.declared.slots.SlotStatus.TheVariants.{Running}

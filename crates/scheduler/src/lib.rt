@@ -1,7 +1,7 @@
 // The hub's machine as code, without the store: which jobs are present, who holds, reads and writes
 // each item, and the edges between jobs. The code works by slot; its contracts speak of job numbers.
 //
-// core     the scheduler: the tables with their invariant, and its calls
+// hub_core the scheduler: the tables with their invariant, and its calls
 // slots    the slots of the job table
 // tables   the job table, the item states and the next number
 // opening  opening a job
@@ -9,8 +9,10 @@
 // ending   committing and aborting a job
 // retiring retiring committed jobs
 // sweeps   taking a job out of edges and items
-pub mod core;
+#![tactic(auto)]
+
 mod ending;
+pub mod hub_core;
 mod opening;
 mod retiring;
 mod slots;

@@ -1,5 +1,5 @@
 -- What a put makes of a log.
-use Rattle.std.proofs.Common.{◌≡◌, ℕ, ◌+◌, ◌-◌, ◌/◌, ◌^◌, ◌<◌, min, List, set, Ok, Err, sym, refl, ap, ◌∙◌, arith}
+use Rattle.std.proofs.Common.{◌≡◌, ℕ, ◌+◌, ◌-◌, ◌/◌, ◌^◌, ◌<◌, min, List, set, Ok, Err, refl, ap, ◌∙◌, arith}
 use Rattle.store.specs.Stores.{Puts}
 use Rattle.store.specs.Records.{whole, contents, with_record}
 use Rattle.store.specs.Logs.{NextFree}

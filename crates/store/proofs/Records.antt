@@ -1,13 +1,12 @@
 -- How the records of a list of bytes are counted and what they hold when one is appended.
-use Rattle.std.proofs.Common.{◌≡◌, ℕ, zero, suc, ◌+◌, ◌-◌, ◌*◌, ◌/◌, ◌%◌, ◌^◌, ◌<◌, ◌≤◌, Bool, true, false, cond, eqb, ◌⊎◌, List, [], ◌∷◌, ◌++◌, map, length, get_or, take, drop, set, Some, None, sym, refl, ap, ◌∙◌, inl, inr, add-one, arith, get_or-set_other, get_or-set_same, rules, below_more}
+use Rattle.std.proofs.Common.{◌≡◌, ℕ, zero, suc, ◌+◌, ◌-◌, ◌*◌, ◌/◌, ◌%◌, ◌^◌, ◌<◌, ◌≤◌, true, false, cond, eqb, List, ◌++◌, length, get_or, take, drop, set, Some, None, sym, refl, ap, ◌∙◌, inl, inr, add-one, arith, get_or-set_other, get_or-set_same, rules, below_more}
 use borrow.Rule.Slice.PartMut.{put_mid}
-use Rattle.std.specs.List.{range_with_len}
 use Rattle.std.proofs.lemmas.List.{places, drop-drop, get_or_append_left, get_or-append_right, same_lists, length-set}
 use Rattle.std.proofs.lemmas.Bool.{cases_eq, cond-true, cond-false, cond_both, eqb-true, eqb-false, lt-ltb, le-ltb, eq-eqb, ne_eqb}
 use Rattle.std.proofs.lemmas.Nat.{shr-shr, shr_split}
 use Rattle.std.proofs.lemmas.List.FromFn.{length-map-range_with_len, get_or-map-range_with_len}
 use Rattle.store.specs.Stores.{at}
-use Rattle.store.specs.Records.{whole, byte_of, mark_of, item_of, value_of, unmarked_from, used_in, UsedFront, held, LastOf, Latest, contents, written, with_record}
+use Rattle.store.specs.Records.{whole, byte_of, mark_of, item_of, value_of, unmarked_from, used_in, UsedFront, held, Latest, contents, written, with_record}
 
 -- a marked record is passed over
 pub unmarked_more : (bytes : List ℕ) (n w : ℕ) → n < w → eqb (mark_of bytes n) 165 ≡ true → unmarked_from bytes n (w - n) ≡ unmarked_from bytes (n + 1) (w - (n + 1))

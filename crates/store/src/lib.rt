@@ -4,6 +4,8 @@
 // memory     a store whose values stand in lent memory
 // log        a store that appends a record to lent bytes for each put
 // log_bytes  the records of a log, over plain bytes
+#![tactic(auto)]
+
 pub mod log;
 mod log_bytes;
 pub mod memory;

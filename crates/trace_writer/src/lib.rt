@@ -1,4 +1,6 @@
 // The writer of traces.
 //
 // writer   acts, written
+#![tactic(auto)]
+
 pub mod writer;

@@ -1,4 +1,4 @@
-use Rattle.std.proofs.Common.{◌≡◌, ℕ, sym, ◌∙◌, arith}
+use Rattle.std.proofs.Common.{◌≡◌, sym, ◌∙◌, arith}
 use Rattle.scheduler.specs.Slots.{belongs}
 use Rattle.scheduler.proofs.JobSlots.{find_more, find_here, find_none}
 use Rattle.scheduler.proofs.slots.find.Goals as goal

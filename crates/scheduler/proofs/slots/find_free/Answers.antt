@@ -7,10 +7,10 @@ pub loop-k-init : goal.loop-k-init
 loop-k-init c = omega arith
 
 pub loop-k-preserved : goal.loop-k-preserved
-loop-k-preserved c = find_more is_free c.args.slots.now c.loop-k.k _ (omega arith) c.loop-k.invariant (sym c.if-is-free.ensures)
+loop-k-preserved c = find_more is_free c.args.slots.now c.loop-k.k _ (omega arith) c.loop-k.invariant (sym c.if-is_free.ensures)
 
-pub returns-then-is-free : goal.returns-then-is-free
-returns-then-is-free c = find_here is_free c.args.slots.now c.loop-k.k _ (omega arith) c.loop-k.invariant (sym c.if-is-free.ensures)
+pub returns-then-is_free : goal.returns-then-is_free
+returns-then-is_free c = find_here is_free c.args.slots.now c.loop-k.k _ (omega arith) c.loop-k.invariant (sym c.if-is_free.ensures)
 
 pub returns : goal.returns
 returns c =

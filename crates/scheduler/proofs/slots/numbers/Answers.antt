@@ -6,7 +6,7 @@ pub loop-k-init : goal.loop-k-init
 loop-k-init c = record { long = refl; front = refl }
 
 pub loop-k-preserved : goal.loop-k-preserved
-loop-k-preserved c = rw c.number-in.ensures (copied_more c.args.slots.now c.loop-k.k c.loop-k.numbers _ c.loop-k.invariant (omega arith) (omega arith))
+loop-k-preserved c = rw c.number_in.ensures (copied_more c.args.slots.now c.loop-k.k c.loop-k.numbers _ c.loop-k.invariant (omega arith) (omega arith))
 
 pub returns : goal.returns
 returns c = copied_all c.args.slots.now c.loop-k.k c.loop-k.numbers c.loop-k.invariant (omega arith) (omega arith)

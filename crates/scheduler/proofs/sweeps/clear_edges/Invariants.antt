@@ -1,4 +1,3 @@
-use Rattle.std.proofs.Common.{◌≡◌, length}
 use Rattle.scheduler.specs.Marks.{RowWithout}
 use Rattle.scheduler.proofs.Swept.{Swept}
 use Rattle.scheduler.proofs.sweeps.clear_edges.Given as goal

@@ -1,4 +1,3 @@
-use Rattle.std.proofs.Common.{◌≡◌, length}
 use Rattle.scheduler.specs.Reading.{idle}
 use Rattle.scheduler.specs.Marks.{ItemWithout}
 use Rattle.scheduler.proofs.Swept.{Swept}

@@ -11,7 +11,7 @@ returns c =
     let bytes = c.args.bytes.now in
     let item = c.args.item in
     let used = min c.args.used (whole bytes) in
-    let value : c.last-value.result ≡ held bytes item used = c.last-value.ensures ∙ ap (held bytes item) c.min-used.ensures in
+    let value : c.last_value.result ≡ held bytes item used = c.last_value.ensures ∙ ap (held bytes item) c.min-used.ensures in
     record {
       means = ap Some value ∙ sym (at_contents _ _ _ _ (omega arith));
       latest = subst (Latest bytes item used) (sym value) (held_latest bytes item used);

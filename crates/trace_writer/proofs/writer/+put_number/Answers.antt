@@ -11,19 +11,19 @@ returns-then-n-lt10 t c = record {
   after = over_digit c.args.out.now c.args.place c.args.n c.if-n-lt10.true (omega (arith, length_digit c.args.n c.if-n-lt10.true));
 }
 
-pub put-number-end-requires : goal.put-number-end-requires
-put-number-end-requires t c = omega (arith, length_digits c.args.n c.if-n-lt10.false (omega arith))
+pub put_number-end-requires : goal.put_number-end-requires
+put_number-end-requires t c = omega (arith, length_digits c.args.n c.if-n-lt10.false (omega arith))
 
 pub bounds-out-end : goal.bounds-out-end
-bounds-out-end t c = omega (arith, length_digits c.args.n c.if-n-lt10.false (omega arith), c.put-number-end.ensures.end, c.put-number-end.auto.out)
+bounds-out-end t c = omega (arith, length_digits c.args.n c.if-n-lt10.false (omega arith), c.put_number-end.ensures.end, c.put_number-end.auto.out)
 
-pub overflow-add-result-2 : goal.overflow-add-result-2
-overflow-add-result-2 t c = omega (arith, length_digits c.args.n c.if-n-lt10.false (omega arith), c.put-number-end.ensures.end, c.put-number-end.auto.out)
+pub overflow_add-result-2 : goal.overflow_add-result-2
+overflow_add-result-2 t c = omega (arith, length_digits c.args.n c.if-n-lt10.false (omega arith), c.put_number-end.ensures.end, c.put_number-end.auto.out)
 
 pub returns : goal.returns
 returns t c = record {
-  end = omega (arith, length_digits c.args.n c.if-n-lt10.false (omega arith), c.put-number-end.ensures.end);
+  end = omega (arith, length_digits c.args.n c.if-n-lt10.false (omega arith), c.put_number-end.ensures.end);
   after =
-      (λ i. set (c.put-number-end.ensures.after i) (c.put-number-end.ensures.end i) (48 + c.args.n % 10))
+      (λ i. set (c.put_number-end.ensures.after i) (c.put_number-end.ensures.end i) (48 + c.args.n % 10))
       ∙ over_digits c.args.out.now c.args.place c.args.n c.if-n-lt10.false (omega arith) c.requires;
 }

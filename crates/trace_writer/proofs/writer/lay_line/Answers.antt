@@ -8,11 +8,11 @@ pub returns : goal.returns
 returns c =
     let act = c.args.act.now in
     let out = c.args.out.now in
-    let said = c.in-ok-length.ensures in
-    let long = (writing_says act c.args.room c.in-ok-length.length (sym said.answered)).0 in
-    let after = c.put-line.ensures ∙ over_front (line_of act) out in
+    let said = c.in_ok-length.ensures in
+    let long = (writing_says act c.args.room c.in_ok-length.length (sym said.answered)).0 in
+    let after = c.put_line.ensures ∙ over_front (line_of act) out in
     record {
       answered = said.answered;
       after = after;
-      reads-back = λ n e. line_reads_back act out c.put-line.new.out n (said.sayable _ refl) (sym (same_ok _ _ e) ∙ long) after;
+      reads_back = λ n e. line_reads_back act out c.put_line.new.out n (said.sayable _ refl) (sym (same_ok _ _ e) ∙ long) after;
     }

@@ -8,11 +8,11 @@ pub returns : goal.returns
 returns c =
     let acts = c.args.acts.now in
     let out = c.args.out.now in
-    let said = c.in-ok-length.ensures in
-    let long = (writing_all_says acts c.args.room c.in-ok-length.length (sym said.answered)).0 in
-    let after = c.put-lines.ensures ∙ over_front (written acts) out in
+    let said = c.in_ok-length.ensures in
+    let long = (writing_all_says acts c.args.room c.in_ok-length.length (sym said.answered)).0 in
+    let after = c.put_lines.ensures ∙ over_front (written acts) out in
     record {
       answered = said.answered;
       after = after;
-      reads-back = λ n e. trace_reads_back acts out c.put-lines.new.out n (said.sayable _ refl) (sym (same_ok _ _ e) ∙ long) after;
+      reads_back = λ n e. trace_reads_back acts out c.put_lines.new.out n (said.sayable _ refl) (sym (same_ok _ _ e) ∙ long) after;
     }

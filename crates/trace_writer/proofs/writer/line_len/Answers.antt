@@ -4,6 +4,6 @@ use Rattle.trace_writer.proofs.writer.line_len.Goals as goal
 
 pub returns : goal.returns
 returns c = record {
-  bound = (c.job-of.ensures.bound, c.value-of.ensures.bound);
-  value = omega (arith, length_line c.args.act.now, length_text _ _ c.job-of.ensures.value, length_text _ _ c.item-of.ensures, length_text _ _ c.value-of.ensures.value, c.field-len.ensures.value, c.field-len-2.ensures.value, c.field-len-3.ensures.value);
+  bound = (c.job_of.ensures.bound, c.value_of.ensures.bound);
+  value = omega (arith, length_line c.args.act.now, length_text _ _ c.job_of.ensures.value, length_text _ _ c.item_of.ensures, length_text _ _ c.value_of.ensures.value, c.field_len.ensures.value, c.field_len-2.ensures.value, c.field_len-3.ensures.value);
 }

@@ -4,15 +4,15 @@ use Rattle.trace_writer.proofs.Batches.{measured_on, measured_refused, measured_
 use Rattle.trace.proofs.Saying.{apart'}
 use Rattle.trace_writer.proofs.writer.measure_all.Goals as goal
 
-pub returns-in-err-total : goal.returns-in-err-total
-returns-in-err-total c =
-    let p = err_from_is_err_and c.from-residual.result c.from-residual.ensures.1 in
-    let e = measured_refused c.args.acts.now c.args.room c.loop-i.i c.loop-i.total _ c.loop-i.invariant c.loop-i-test.true (sym c.in-err-total.ensures.answered) in
+pub returns-in_err-total : goal.returns-in_err-total
+returns-in_err-total c =
+    let p = err_from_is_err_and c.from_residual.result c.from_residual.ensures.1 in
+    let e = measured_refused c.args.acts.now c.args.room c.loop-i.i c.loop-i.total _ c.loop-i.invariant c.loop-i-test.true (sym c.in_err-total.ensures.answered) in
     record { answered = rw (p.1, p.2) e; sayable = λ n q. absurd (apart' _ _ (sym p.1 ∙ q)); within = λ n q. absurd (apart' _ _ (sym p.1 ∙ q)) }
 
 pub loop-i-preserved : goal.loop-i-preserved
 loop-i-preserved c =
-    measured_on c.args.acts.now c.args.room c.loop-i.i c.loop-i.total _ c.loop-i.invariant c.loop-i-test.true (sym c.in-ok-total.ensures.answered) (c.in-ok-total.ensures.sayable _ refl)
+    measured_on c.args.acts.now c.args.room c.loop-i.i c.loop-i.total _ c.loop-i.invariant c.loop-i-test.true (sym c.in_ok-total.ensures.answered) (c.in_ok-total.ensures.sayable _ refl)
 
 pub returns : goal.returns
 returns c =

@@ -3,17 +3,17 @@ use Rattle.std.proofs.lemmas.Result.{err_from_is_err_and}
 use Rattle.scheduler.proofs.Ends.{stopped_status, runs_status}
 use Rattle.scheduler.proofs.tables.Tables.end.Goals as goal
 
-pub returns-in-err-slot : goal.returns-in-err-slot
-returns-in-err-slot c = let p = err_from_is_err_and c.from-residual.result c.from-residual.ensures.1 in rw (p.1, p.2) (record {
+pub returns-in_err-slot : goal.returns-in_err-slot
+returns-in_err-slot c = let p = err_from_is_err_and c.from_residual.result c.from_residual.ensures.1 in rw (p.1, p.2) (record {
   sound = c.requires;
-  ends = (refl, λ values room. stopped_status c.args.self.now c.args.job values room _ c.in-err-slot.ensures);
+  ends = (refl, λ values room. stopped_status c.args.self.now c.args.job values room _ c.in_err-slot.ensures);
 })
 
 pub returns : goal.returns
 returns c = record {
-  sound = c.note-commit.ensures.sound;
+  sound = c.note_commit.ensures.sound;
   ends = λ values room left. (
-    runs_status c.args.self.now c.args.job values room _ c.in-ok-slot.ensures,
-    c.note-commit.ensures.ends values room left,
+    runs_status c.args.self.now c.args.job values room _ c.in_ok-slot.ensures,
+    c.note_commit.ensures.ends values room left,
   );
 }

@@ -3,5 +3,5 @@ use Rattle.scheduler.proofs.tables.Tables.next_to_retire.Goals as goal
 
 pub returns : goal.returns
 returns c =
-    picks_next c.args.self.now c.requires c.slots-with-running.result c.slots-with-committed.result c.union.result c.numbers-keys.result
-    c.slots-with-running.ensures c.slots-with-committed.ensures c.union.ensures c.numbers-keys.ensures c.next-free.result c.next-free.ensures
+    picks_next c.args.self.now c.requires c.slots_with-running.result c.slots_with-committed.result c.union.result c.numbers-keys.result
+    c.slots_with-running.ensures c.slots_with-committed.ensures c.union.ensures c.numbers-keys.ensures c.next_free.result c.next_free.ensures

@@ -1,15 +1,14 @@
 use Rattle.std.proofs.Common.{arith}
-use Rattle.std.proofs.lemmas.Option.{MatchOption-at_none}
 use Rattle.scheduler.proofs.RetireRuns.{none_retired, one_retired, retired_full, retired_rest}
 use Rattle.scheduler.proofs.tables.Tables.retire.Goals as goal
 
 pub loop-count-init : goal.loop-count-init
 loop-count-init c = (c.requires, none_retired c.args.self.now c.args.list.now)
 
-pub returns-in-default : goal.returns-in-default
-returns-in-default c = record {
+pub returns-in_default : goal.returns-in_default
+returns-in_default c = record {
   sound = c.loop-count.invariant.0;
-  retires = retired_rest c.args.self.now c.args.list.now c.loop-count.count c.loop-count.self c.loop-count.list c.loop-count.invariant.1 c.in-default.ensures;
+  retires = retired_rest c.args.self.now c.args.list.now c.loop-count.count c.loop-count.self c.loop-count.list c.loop-count.invariant.1 c.in_default.ensures;
 }
 
 pub loop-count-preserved : goal.loop-count-preserved

@@ -1,4 +1,4 @@
-use Rattle.std.proofs.Common.{◌≡◌, ◌-◌, min, sym, refl, ap, ◌∙◌, subst, arith}
+use Rattle.std.proofs.Common.{◌≡◌, ◌-◌, min, sym, refl, ap, subst, arith}
 use Rattle.store.specs.Records.{whole, contents, used_in, UsedFront}
 use Rattle.store.proofs.Records.{used_front}
 use Rattle.store.proofs.log.LogStore.with_used.Goals as goal
