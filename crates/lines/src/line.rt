@@ -7,7 +7,7 @@ use std::fmt;
 use trace::fault::ReadRefusal;
 
 // What a line tells.
-#[derive(Clone, Copy)]
+#[derive(Clone, Copy, PartialEq, Eq, Debug)]
 pub enum Outcome {
     // The call was granted and answered a number: that of the opened job, or a value.
     Number(u32),
@@ -24,7 +24,7 @@ pub enum Outcome {
 }
 
 // A line of a rehearsal: the line of the trace that it belongs to, and what it tells.
-#[derive(Clone, Copy)]
+#[derive(Clone, Copy, PartialEq, Eq, Debug)]
 pub struct Line {
     pub number: usize,
     pub outcome: Outcome,
@@ -46,14 +46,14 @@ pub fn not_read(refusal: ReadRefusal) -> Line
 }
 
 // The second column: 0 or the number of a refusal, or the mark of a retired job.
-#[derive(Clone, Copy)]
+#[derive(Clone, Copy, PartialEq, Eq, Debug)]
 pub enum AnswerColumn {
     Code(u32),
     RetiredMark,
 }
 
 // The third column: a number, or nothing.
-#[derive(Clone, Copy)]
+#[derive(Clone, Copy, PartialEq, Eq, Debug)]
 pub struct DetailColumn {
     pub number: Option<usize>,
 }

@@ -1,12 +1,12 @@
 -- The ledger of one access more.
-use Rattle.std.proofs.Common.{◌≡◌, ℕ, ◌+◌, ◌<◌, ◌≤◌, Bool, true, false, not, ◌&&◌, ◌||◌, T, eqb, ◌⊎◌, List, [], ◌∷◌, ◌++◌, length, get_or, set, sym, refl, ap, ◌∙◌, subst, inl, inr, ⊎_elim, arith}
+use Rattle.std.proofs.Common.{◌≡◌, ℕ, ◌<◌, ◌≤◌, Bool, true, false, not, ◌&&◌, ◌||◌, T, eqb, ◌⊎◌, List, [], ◌∷◌, ◌++◌, length, get_or, set, sym, refl, ap, ◌∙◌, subst, inl, inr, ⊎_elim, arith}
 use Rattle.std.proofs.lemmas.Bool.{both_ways, cases_eq, ne_eqb, eqb-false, not-true, and_parts, and_from, or_left, or_right, or_cases}
-use Rattle.std.proofs.lemmas.List.{get_or-set_same, get_or-set_other, length-set}
+use Rattle.std.proofs.lemmas.List.{get_or-set_other, length-set}
 use Rattle.graph.specs.Nodes.{has}
 use Rattle.graph.specs.Paths.{◌∈◌, Distinct}
 use Rattle.trace.specs.declared.act.Act.{Act}
 use Rattle.trace.specs.declared.act.Act.TheVariants.{Read, Write}
-use Rattle.history.specs.Acts.{Fate, after, fate, Kept, not_aborted}
+use Rattle.history.specs.Acts.{Fate, after, fate, not_aborted}
 use Rattle.history.specs.Conflicts.{Access, accesses, Leads}
 use Rattle.history.proofs.Records.{fate_more, accesses_join, Did, Met, leads_more, leads_old, leads_new, met_did, did_met_write, did_met_read}
 use Rattle.verdict.specs.declared.ledger.Ledger.{Ledger}

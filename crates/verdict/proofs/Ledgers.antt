@@ -1,21 +1,19 @@
 -- The ledger of one act more.
-use Rattle.std.proofs.Common.{◌≡◌, ℕ, ◌+◌, ◌<◌, ◌≤◌, Bool, true, false, cond, not, ◌&&◌, ◌||◌, T, eqb, ◌⊎◌, List, [], ◌∷◌, ◌++◌, length, get_or, take, set, replicate, Some, None, sym, refl, ap, ◌∙◌, subst, ap₂, inl, inr, ⊎_elim, arith}
-use Rattle.std.proofs.lemmas.Bool.{both_ways, cases_eq, cases_Bool, eq-eqb, eqb-true, ne_eqb, or_left, or_right, or_cases}
+use Rattle.std.proofs.Common.{◌≡◌, ℕ, ◌+◌, ◌<◌, ◌≤◌, Bool, true, false, cond, not, ◌&&◌, ◌||◌, T, eqb, ◌⊎◌, List, [], ◌∷◌, ◌++◌, length, get_or, set, Some, None, sym, refl, ap, ◌∙◌, subst, inl, inr, ⊎_elim, arith}
+use Rattle.std.proofs.lemmas.Bool.{both_ways, cases_eq, eq-eqb, eqb-true, ne_eqb, or_left, or_right, or_cases}
 use Rattle.std.proofs.lemmas.List.{append-nil, take_more_set, get_or-set_same, get_or-set_other, length-set, length-take-le}
 use Rattle.graph.specs.Nodes.{has}
 use Rattle.graph.specs.Paths.{◌∈◌, Distinct}
 use Rattle.graph.proofs.Lists.{in_left, in_right, in_push, in_front, place_in_front, distinct_push}
-use Rattle.graph.proofs.Words.{bit_none}
 use Rattle.trace.specs.declared.act.Act.{Act}
 use Rattle.trace.specs.declared.act.Act.TheVariants.{Open, Read, Write, Commit, Abort, Peek, Retire}
 use Rattle.history.specs.Acts.{Fate, after, fate, Kept, not_aborted}
-use Rattle.history.specs.Conflicts.{Access, accesses, Conflict, Leads}
-use Rattle.history.proofs.Records.{fate_more, accesses_join, Occurs, leads_occurs, Did, Met, leads_more, leads_old, leads_new, met_did, did_met_write, did_met_read}
+use Rattle.history.specs.Conflicts.{Access, accesses, Leads}
+use Rattle.history.proofs.Records.{fate_more, accesses_join, Occurs, leads_occurs}
 use Rattle.verdict.specs.declared.ledger.Ledger.{Ledger}
-use Rattle.verdict.specs.declared.ledger.Users.{Users}
 use Rattle.verdict.specs.Turns.{opened}
-use Rattle.verdict.specs.Ledgers.{number_at, marked, Finds, FindsOpen, Opens, Ends, Drops, Draws, NotesRead, NotesWrite, Marks, Used, UsersOf, users_at, Keeps}
-use Rattle.verdict.proofs.Marks.{Apart, distinct_apart, marks_hit, marks_miss, marks_drop, used_more, used_old, used_new, used_hit, used_miss}
+use Rattle.verdict.specs.Ledgers.{number_at, marked, Finds, FindsOpen, Opens, Ends, Drops, Marks, Used, UsersOf, users_at, Keeps}
+use Rattle.verdict.proofs.Marks.{Apart, distinct_apart, marks_miss, marks_drop}
 
 opened_join : (H K : List Act) → opened (H ++ K) ≡ opened H ++ opened K
 opened_join [] K = refl

@@ -1,19 +1,19 @@
 -- From the nodes of a ledger to the jobs of the acts: cycles and orders.
-use Rattle.std.proofs.Common.{◌≡◌, ℕ, ◌<◌, ◌≤◌, Bool, true, false, not, ◌&&◌, T, ltb, ◌⊎◌, List, [], ◌∷◌, ◌++◌, map, length, get_or, take, drop, Some, None, sym, refl, ap, ◌∙◌, subst, subst₂, inl, inr, ⊎_elim, arith, lt→ltb}
+use Rattle.std.proofs.Common.{◌≡◌, ℕ, ◌<◌, ◌≤◌, T, ltb, List, [], ◌∷◌, ◌++◌, length, get_or, take, drop, Some, None, sym, refl, ap, ◌∙◌, subst, inl, inr, ⊎_elim, arith, lt→ltb}
 use Rattle.std.proofs.lemmas.List.{length-take-le}
-use Rattle.graph.specs.Edges.{Edges, Within}
+use Rattle.graph.specs.Edges.{Within}
 use Rattle.graph.specs.Lists.{listed}
 use Rattle.graph.specs.Nodes.{has}
 use Rattle.graph.specs.declared.list.NodeList.{NodeList}
-use Rattle.graph.specs.Orders.{Test, Free, First, but, Ordered, Orders, AmongRest}
+use Rattle.graph.specs.Orders.{Test, Free, but, Ordered, Orders}
 use Rattle.graph.specs.Paths.{Relation, Path, edge, ◌then◌, Cycle, ◌∈◌, Distinct, Linked, Forward, ShowsCycle}
 use Rattle.graph.proofs.Lists.{distinct_few, in_front}
 use Rattle.graph.proofs.Orders.{but_parts, but_both}
 use Rattle.graph.proofs.Parts.{T-both, T-parts}
 use Rattle.graph.proofs.Paths.{path_map}
 use Rattle.trace.specs.declared.act.Act.{Act}
-use Rattle.history.specs.Acts.{Fate, fate, Kept, not_aborted}
-use Rattle.history.specs.Conflicts.{accesses, Leads, Edge, SerialOrder}
+use Rattle.history.specs.Acts.{Kept, not_aborted}
+use Rattle.history.specs.Conflicts.{Edge, SerialOrder}
 use Rattle.history.specs.Arrangements.{ConflictSerializable}
 use Rattle.history.proofs.Arrangements.{arrangement_has_no_cycle}
 use Rattle.history.proofs.Blocks.{order_gives_arrangement}

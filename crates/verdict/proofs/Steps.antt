@@ -1,14 +1,12 @@
 -- The acts of the first steps, one step more.
-use Rattle.std.proofs.Common.{◌≡◌, ℕ, ◌+◌, ◌<◌, ◌≤◌, true, false, List, [], ◌∷◌, ◌++◌, length, get_or, take, Ok, Err, sym, refl, ap, ◌∙◌, subst, arith, below_more}
+use Rattle.std.proofs.Common.{◌≡◌, ℕ, ◌+◌, ◌<◌, ◌≤◌, List, [], ◌∷◌, ◌++◌, length, get_or, take, Ok, Err, sym, refl, ap, ◌∙◌, subst, arith, below_more}
 use Rattle.std.proofs.lemmas.Bool.{both_ways}
 use Rattle.std.proofs.lemmas.List.{get_or-map, take-map, take_more, take_all, length-map}
 use Rattle.graph.specs.Nodes.{has}
 use Rattle.graph.proofs.Lists.{zeros}
 use Rattle.graph.proofs.Words.{bit_none}
-use Rattle.trace.specs.declared.act.Act.{Act}
 use Rattle.trace.specs.declared.act.Act.TheVariants.{Retire}
 use Rattle.trace.specs.declared.act.Step.{Step}
-use Rattle.history.specs.Acts.{Fate}
 use Rattle.verdict.specs.declared.ledger.Ledger.{Ledger}
 use Rattle.verdict.specs.declared.refusal.JudgeRefusal.{JudgeRefusal}
 use Rattle.verdict.specs.declared.refusal.JudgeRefusal.TheVariants.{OutOfTurn, TooManyJobs, ListTooShort}
@@ -47,14 +45,14 @@ keeps_none = record {
 }
 
 -- what has been read when the first i steps are taken
-abbrev pub Read-upto : List Step → ℕ → Ledger → Type 0
-Read-upto steps i l = Sound (acts steps) i × Keeps (acts (take i steps)) l
+abbrev pub ReadUpto : List Step → ℕ → Ledger → Type 0
+ReadUpto steps i l = Sound (acts steps) i × Keeps (acts (take i steps)) l
 
-pub read_none : (steps : List Step) → Read-upto steps 0 blank
+pub read_none : (steps : List Step) → ReadUpto steps 0 blank
 read_none steps = ((λ k b. absurd (omega arith)), keeps_none)
 
-module _ (steps : List Step) (i : ℕ) (l m : Ledger) (b : i < length steps) (r : Read-upto steps i l) where
-  pub read_more : (u : Unit {0}) → Takes (acts (take i steps)) (get_or (acts steps) i Retire) i (Ok u) m → Read-upto steps (i + 1) m
+module _ (steps : List Step) (i : ℕ) (l m : Ledger) (b : i < length steps) (r : ReadUpto steps i l) where
+  pub read_more : (u : Unit {0}) → Takes (acts (take i steps)) (get_or (acts steps) i Retire) i (Ok u) m → ReadUpto steps (i + 1) m
   read_more u t = (
     below_more (λ k. InTurn (take k (acts steps)) (get_or (acts steps) k Retire) × HasRoom (take k (acts steps)) (get_or (acts steps) k Retire)) i r.0
         (subst (λ H. InTurn H (get_or (acts steps) i Retire) × HasRoom H (get_or (acts steps) i Retire)) (acts_take steps i) (t.0, t.1)),
@@ -74,7 +72,7 @@ module _ (steps : List Step) (i : ℕ) (l m : Ledger) (b : i < length steps) (r 
   )
   read_refused ListTooShort t places = absurd t
 
-pub read_all : (steps : List Step) (i : ℕ) (l : Ledger) → length steps ≤ i → i ≤ length steps → Read-upto steps i l → ReadsSteps (acts steps) (Ok l)
+pub read_all : (steps : List Step) (i : ℕ) (l : Ledger) → length steps ≤ i → i ≤ length steps → ReadUpto steps i l → ReadsSteps (acts steps) (Ok l)
 read_all steps i l b c r =
     let e : length steps ≡ i = omega arith in (
       subst (Sound (acts steps)) (sym (acts_length steps ∙ e)) r.0,

@@ -1,6 +1,6 @@
 -- What a ledger says of the acts so far, and what the calls on it do. Rests on sets of nodes, and on the conflicts of a
 -- list of acts.
-use Rattle.std.specs.Prelude.{◌≡◌, ℕ, ◌+◌, ◌<◌, ◌≤◌, Bool, true, false, not, ◌&&◌, ◌||◌, T, ◌⊎◌, List, [], ◌∷◌, ◌++◌, length, take, set, replicate, Some, None, Ok, Err, Option, Result, ◌==◌, ◌≢◌, slice_index}
+use Rattle.std.specs.Prelude.{◌≡◌, ℕ, ◌+◌, ◌<◌, ◌≤◌, Bool, true, false, not, ◌&&◌, ◌||◌, ◌⊎◌, List, [], ◌∷◌, ◌++◌, length, take, set, replicate, Some, None, Ok, Err, Option, Result, ◌==◌, ◌≢◌, slice_index}
 use Rattle.graph.specs.Nodes.{has}
 use Rattle.graph.specs.Paths.{◌∈◌, Distinct}
 use Rattle.trace.specs.declared.act.Act.{Act}

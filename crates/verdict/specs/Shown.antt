@@ -5,7 +5,7 @@ use Rattle.graph.specs.Lists.{listed}
 use Rattle.graph.specs.Orders.{Orders}
 use Rattle.graph.specs.Outcomes.{FindsCycle}
 use Rattle.graph.specs.Paths.{Relation}
-use Rattle.graph.specs.Rows.{marked as marked-rows}
+use Rattle.graph.specs.Rows.{marked as marked_rows}
 use Rattle.graph.specs.declared.list.NodeList.{NodeList}
 use Rattle.trace.specs.declared.act.Act.{Act}
 use Rattle.verdict.specs.declared.ledger.Ledger.{Ledger}
@@ -17,7 +17,7 @@ numbered l nodes = map (number_at l) nodes
 
 -- the edges between the nodes of a ledger
 abbrev pub NodeEdges : Ledger → Relation
-NodeEdges l = Edges 64 (marked-rows 64 l.into)
+NodeEdges l = Edges 64 (marked_rows 64 l.into)
 
 -- the ledger is that of some acts, and the list has a place for each of its jobs
 abbrev pub Ready : Ledger → ℕ → Type 0

@@ -4,6 +4,8 @@
 // ledger   the jobs of the steps so far, and the edges between them
 // reading  the steps, one after another
 // judge    the verdict, with the order or the cycle that shows it
+#![tactic(auto)]
+
 pub mod judge;
 mod ledger;
 mod reading;

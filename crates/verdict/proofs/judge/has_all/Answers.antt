@@ -1,4 +1,4 @@
-use Rattle.std.proofs.Common.{◌≡◌, ℕ, take, ap, subst, inl, arith}
+use Rattle.std.proofs.Common.{◌≡◌, take, subst, inl, arith}
 use Rattle.verdict.proofs.Missing.{Missing, missing_more, missing_none, all_there}
 use Rattle.verdict.proofs.judge.has_all.Goals as goal
 
@@ -14,6 +14,6 @@ returns c =
     let all : c.loop-at.at ≡ c.args.list.now.count = omega arith in
     let m = subst (λ k. Missing c.args.set (take k c.args.list.now.nodes) c.loop-at.missing) all c.loop-at.invariant in
     record {
-      all = λ e. missing_none _ _ _ m (c.is-empty.ensures.empty e);
-      some = λ e h. c.is-empty.ensures.filled e (all_there _ _ _ m h);
+      all = λ e. missing_none _ _ _ m (c.is_empty.ensures.empty e);
+      some = λ e h. c.is_empty.ensures.filled e (all_there _ _ _ m h);
     }

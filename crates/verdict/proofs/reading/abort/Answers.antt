@@ -2,8 +2,8 @@ use Rattle.std.proofs.Common.{refl}
 use Rattle.verdict.proofs.Ledgers.{runs_there, runs_not, keeps_abort}
 use Rattle.verdict.proofs.reading.abort.Goals as goal
 
-pub returns-in-default : goal.returns-in-default
-returns-in-default c H k = (refl, runs_not H c.args.ledger.now k c.args.job c.in-default.ensures)
+pub returns-in_default : goal.returns-in_default
+returns-in_default c H k = (refl, runs_not H c.args.ledger.now k c.args.job c.in_default.ensures)
 
 pub returns : goal.returns
 returns c H k =

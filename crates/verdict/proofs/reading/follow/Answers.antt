@@ -1,6 +1,5 @@
-use Rattle.std.proofs.Common.{◌≡◌, ℕ, get_or, take, Ok, sym, refl, ◌∙◌, subst}
-use Rattle.trace.specs.declared.act.Act.{Act}
-use Rattle.trace.specs.declared.act.Act.TheVariants.{Open, Retire}
+use Rattle.std.proofs.Common.{take, Ok, sym, ◌∙◌, subst}
+use Rattle.trace.specs.declared.act.Act.TheVariants.{Open}
 use Rattle.verdict.specs.Ledgers.{Takes}
 use Rattle.verdict.specs.Turns.{acts}
 use Rattle.verdict.proofs.Ledgers.{keeps_peek, keeps_retire}

@@ -12,12 +12,12 @@ returns-in-Some c =
     (distinct_apart l c.requires.0 c.requires.2 c.requires.1) at.0 at.1 c.if-used-item.true
     (with_small c.args.users.now.readers c.with-users.result c.in-Some.node (omega (arith, at.0, c.requires.0)) c.with-users.ensures) refl)
 
-pub returns-in-default : goal.returns-in-default
-returns-in-default c =
+pub returns-in_default : goal.returns-in_default
+returns-in_default c =
     let l = c.args.ledger.now in
     subst (Noted l c.args.item c.args.users.now c.args.users.now) (sym c.in-Read.is)
     (users_miss l c.args.item c.args.users.now (record { job = c.in-Read.job; item = c.in-Read.used; writes = false; value = c.in-Read.value })
-    (λ p b e _. c.in-default.ensures p b e))
+    (λ p b e _. c.in_default.ensures p b e))
 
 pub returns-else-used-item : goal.returns-else-used-item
 returns-else-used-item c =
@@ -36,12 +36,12 @@ returns-in-Some-find c =
     (distinct_apart l c.requires.0 c.requires.2 c.requires.1) at.0 at.1 c.if-used-item-2.true
     (with_small c.args.users.now.writers c.with-users-in-Some-find.result c.in-Some-find.node (omega (arith, at.0, c.requires.0)) c.with-users-in-Some-find.ensures) refl)
 
-pub returns-in-default-find : goal.returns-in-default-find
-returns-in-default-find c =
+pub returns-in_default-find : goal.returns-in_default-find
+returns-in_default-find c =
     let l = c.args.ledger.now in
     subst (Noted l c.args.item c.args.users.now c.args.users.now) (sym c.in-Write.is)
     (users_miss l c.args.item c.args.users.now (record { job = c.in-Write.job; item = c.in-Write.used; writes = true; value = c.in-Write.value })
-    (λ p b e _. c.in-default-find.ensures p b e))
+    (λ p b e _. c.in_default-find.ensures p b e))
 
 pub returns-else-used-item-2 : goal.returns-else-used-item-2
 returns-else-used-item-2 c =

@@ -1,5 +1,5 @@
-use Rattle.verdict.proofs.Steps.{Read-upto}
+use Rattle.verdict.proofs.Steps.{ReadUpto}
 use Rattle.verdict.proofs.reading.read_steps.Given as goal
 
 abbrev pub invariant-loop-index : goal.invariant-loop-index
-invariant-loop-index l = Read-upto l.steps l.index l.ledger
+invariant-loop-index l = ReadUpto l.steps l.index l.ledger

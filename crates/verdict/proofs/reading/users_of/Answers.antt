@@ -8,5 +8,5 @@ loop-at-init c = users_none c.args.ledger.now c.args.item
 
 pub loop-at-preserved : goal.loop-at-preserved
 loop-at-preserved c =
-    users_next c.args.ledger.now c.args.item c.loop-at.users c.note-use.new.users c.args.steps.now c.loop-at.at
-    (record { line = 0; act = Open 0 }) (omega arith) c.note-use.ensures c.loop-at.invariant
+    users_next c.args.ledger.now c.args.item c.loop-at.users c.note_use.new.users c.args.steps.now c.loop-at.at
+    (record { line = 0; act = Open 0 }) (omega arith) c.note_use.ensures c.loop-at.invariant

@@ -5,8 +5,8 @@ use Rattle.verdict.proofs.Ledgers.{runs_there, runs_not}
 use Rattle.verdict.proofs.Drawing.{clash_write, keeps_write}
 use Rattle.verdict.proofs.reading.write.Goals as goal
 
-pub returns-in-default : goal.returns-in-default
-returns-in-default c value = (refl, runs_not (acts (take c.args.index c.args.steps.now)) c.args.ledger.now c.requires.1 c.args.job c.in-default.ensures)
+pub returns-in_default : goal.returns-in_default
+returns-in_default c value = (refl, runs_not (acts (take c.args.index c.args.steps.now)) c.args.ledger.now c.requires.1 c.args.job c.in_default.ensures)
 
 pub returns : goal.returns
 returns c value =
@@ -15,7 +15,7 @@ returns c value =
     let f = c.in-Some.ensures in (
       runs_there H l c.requires.1 c.args.job c.in-Some.node f,
       tt,
-      keeps_write H l c.note-write.new.self c.requires.1 c.in-Some.node c.args.job c.args.item value c.before-write.result f.0 f.1
-          (clash_write l c.args.item (accesses H) c.users-users.result c.before-write.result c.users-users.ensures c.before-write.ensures)
-          c.draw.new.self c.draw.ensures c.note-write.ensures,
+      keeps_write H l c.note_write.new.self c.requires.1 c.in-Some.node c.args.job c.args.item value c.before_write.result f.0 f.1
+          (clash_write l c.args.item (accesses H) c.users-users.result c.before_write.result c.users-users.ensures c.before_write.ensures)
+          c.draw.new.self c.draw.ensures c.note_write.ensures,
     )
