@@ -6,7 +6,7 @@ ghost use Rattle.scheduler.specs.Slots.{slot_of, first, is_free as free, belongs
 use graph::nodes::with;
 
 // What a slot says of its job.
-#[derive(Clone, Copy)]
+#[derive(Clone, Copy, PartialEq, Eq, Debug)]
 pub enum SlotStatus {
     Free,
     Running,
@@ -14,7 +14,7 @@ pub enum SlotStatus {
 }
 
 // A place of the job table: free, or taken by one job. The number of a free slot means nothing.
-#[derive(Clone, Copy)]
+#[derive(Clone, Copy, PartialEq, Eq, Debug)]
 pub struct Slot {
     pub job: u32,
     pub status: SlotStatus,
