@@ -1,5 +1,5 @@
 -- Requests put into a list of steps, one after another.
-use Rattle.std.proofs.Common.{◌≡◌, ℕ, suc, ◌+◌, ◌<◌, ◌≤◌, List, [], ◌∷◌, ◌++◌, map, length, get_or, take, drop, set, Some, None, sym, refl, ap, ◌∙◌, subst, arith}
+use Rattle.std.proofs.Common.{◌≡◌, ℕ, suc, ◌+◌, ◌<◌, ◌≤◌, List, [], ◌∷◌, ◌++◌, length, get_or, take, drop, set, Some, sym, refl, ap, ◌∙◌, subst, arith}
 use Rattle.std.proofs.lemmas.List.{append_assoc, append-nil, map-append, take_more_set, length-take-le}
 use Rattle.trace.specs.declared.act.Act.{Act}
 use Rattle.trace.specs.declared.act.Step.{Step}
@@ -7,7 +7,7 @@ use Rattle.verdict.specs.Turns.{acts}
 use Rattle.entry.specs.declared.request.Request.{Request}
 use Rattle.entry.specs.Requests.{act_of, known}
 use Rattle.entry.specs.Judging.{Decodes}
-use Rattle.entry.proofs.Requests.{blank, known_more, known_stops, known_all}
+use Rattle.entry.proofs.Requests.{blank, known_more, known_all}
 
 length_acts : (steps : List Step) → length (acts steps) ≡ length steps
 length_acts [] = refl

@@ -1,7 +1,7 @@
 -- Requests made on a hub, one after another.
-use Rattle.std.proofs.Common.{◌≡◌, ℕ, suc, ◌+◌, ◌-◌, ◌<◌, ◌≤◌, min, ◌⊎◌, List, [], ◌∷◌, ◌++◌, length, get_or, take, drop, set, replicate, Some, None, sym, refl, ap, ◌∙◌, subst, inl, inr, arith, length-append}
+use Rattle.std.proofs.Common.{◌≡◌, ℕ, suc, ◌+◌, ◌-◌, ◌<◌, ◌≤◌, min, List, [], ◌∷◌, ◌++◌, length, get_or, take, drop, set, replicate, Some, sym, refl, ap, ◌∙◌, subst, inl, inr, arith, length-append}
 use Rattle.std.proofs.lemmas.Bool.{cases_lt}
-use Rattle.std.proofs.lemmas.List.{append_assoc, append-nil, drop_more, drop_all, set-append_right, take_all}
+use Rattle.std.proofs.lemmas.List.{append_assoc, append-nil, drop_more, set-append_right, take_all}
 use Rattle.trace.specs.declared.act.Act.{Act}
 use Rattle.history.specs.Machine.{State, made, Call, Answer, answer, after_call, Steps}
 use Rattle.history.specs.Runs.{Turn, Runs}
@@ -10,7 +10,7 @@ use Rattle.entry.specs.declared.request.Request.{Request}
 use Rattle.entry.specs.declared.request.Reply.{Reply}
 use Rattle.entry.specs.Requests.{act_of, known}
 use Rattle.entry.specs.Playing.{call_of, calls_of, reply, Replies, plenty, run_from, run_of, replies_of, start, Plays, PlaysAll}
-use Rattle.entry.proofs.Requests.{blank, known_more, known_stops, known_all}
+use Rattle.entry.proofs.Requests.{blank, known_more, known_all}
 
 length_replies : (us : List Turn) → length (replies_of us) ≡ length us
 length_replies [] = refl

@@ -3,6 +3,8 @@
 // request  what crosses: requests, replies and judgements
 // playing  a list of requests, made on a hub
 // judging  a list of requests, judged
+#![tactic(auto)]
+
 pub mod judging;
 pub mod playing;
 pub mod request;

@@ -2,5 +2,7 @@
 //
 // turn   one step, played on a hub
 // play   all steps, played on a hub that is made for them
+#![tactic(auto)]
+
 pub mod play;
 mod turn;

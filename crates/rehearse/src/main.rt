@@ -1,4 +1,6 @@
 // Plays the trace on standard input on a hub, and prints what the hub answered, line by line.
+#![tactic(auto)]
+
 ghost use Rattle.std.specs.Prelude.{IfOk, string_bytes};
 ghost use Rattle.rehearse.specs.Prints.{Prints};
 
