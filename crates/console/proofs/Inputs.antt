@@ -1,5 +1,5 @@
 -- The trace of an input, from what the reader answers.
-use Rattle.std.proofs.Common.{◌≡◌, ℕ, suc, ◌+◌, ◌-◌, ◌≤◌, List, [], ◌∷◌, ◌++◌, length, take, drop, Some, None, Ok, Err, Option, Result, sym, refl, ap, ◌∙◌, subst, arith, length-append, length-drop}
+use Rattle.std.proofs.Common.{◌≡◌, ℕ, suc, ◌+◌, List, [], ◌∷◌, ◌++◌, length, take, drop, Some, None, Ok, Err, Option, refl, ap, ◌∙◌, subst, arith}
 use Rattle.std.proofs.lemmas.List.{take_at}
 use Rattle.trace.specs.declared.act.Act.{Act}
 use Rattle.trace.specs.declared.act.Step.{Step}
@@ -27,21 +27,21 @@ front_read r lent list e =
     ∙ take_at (numbered 1 r.acts) (drop (length r.acts) lent) (length r.acts) (length_numbered 1 r.acts)
 
 -- a list that begins with the lent one, cut to the count, holds the steps
-pub steps_read : (bytes : List ℕ) (lent list old items : List Step) (count len : ℕ)
+pub steps_read : (bytes : List ℕ) (lent list old items : List Step) (count left len : ℕ)
     → length lent ≡ len → length list ≡ len → len ≡ 1024
     → Ok count ≡ answer (reading_of_input bytes (length lent))
     → list ≡ list_after lent (reading_of_input bytes (length lent))
-    → items ≡ take count (take len (list ++ drop (length list) old))
+    → items ≡ take left (take len (list ++ drop (length list) old)) → left ≡ count
     → ((read bytes).stop ≡ None) × (items ≡ steps_of (read bytes))
-steps_read bytes lent list old items count len a b d e l i =
+steps_read bytes lent list old items count left len a b d e l i c =
     let room : length lent ≡ 1024 = a ∙ d in
     let told : Ok count ≡ answer (read bytes) = subst (λ (z : ℕ). Ok count ≡ answer (reading_of_input bytes z)) room e in
     let kept : list ≡ list_after lent (read bytes) = subst (λ (z : ℕ). list ≡ list_after lent (reading_of_input bytes z)) room l in
     let o = ok_answered (length (read bytes).acts) count (read bytes).stop told in (
       o.0,
       i
-          ∙ ap (λ (z : List Step). take count z) (take_at list (drop (length list) old) len b)
-          ∙ ap (λ (z : ℕ). take z list) o.1
+          ∙ ap (λ (z : List Step). take left z) (take_at list (drop (length list) old) len b)
+          ∙ ap (λ (z : ℕ). take z list) (c ∙ o.1)
           ∙ front_read (read bytes) lent list kept,
     )
 

@@ -130,10 +130,9 @@ fn a_list_keeps_the_places_that_are_not_read_into(rt: HostRuntime) {
 #[test]
 fn an_input_that_is_too_long_is_not_looked_at(rt: HostRuntime) {
     let mut steps = [BLANK; 1];
-    assert_eq!(rt;
-        reason(read_input(&[b'\n'; 32769], &mut steps)),
-        Refused(13, 0, 0, 0, 0)
-    );
+    let too_long = read_input(&[b'\n'; 32769], &mut steps);
+    assert_eq!(rt; too_long, Err(ReadRefusal::Full { line: 0 }));
+    assert_eq!(rt; reason(too_long), Refused(13, 0, 0, 0, 0));
     assert_eq!(rt;
         reason(read_input(&[b'\n'; 32768], &mut steps)),
         Refused(9, 2, 0, 1, 0)
@@ -143,19 +142,23 @@ fn an_input_that_is_too_long_is_not_looked_at(rt: HostRuntime) {
 #[test]
 fn a_line_is_written_where_it_fits(rt: HostRuntime) {
     let mut bytes = [b'.'; 7];
-    assert_eq!(rt; told(write_act(&Act::Open { job: 1 }, &mut bytes)), (0, 6));
+    assert_eq!(rt; write_act(&Act::Open { job: 1 }, &mut bytes), Ok(6));
     assert_eq!(rt; &bytes, b"O,1,,\n.");
     let peek = Act::Peek {
         item: 10,
         value: 4294967295,
     };
-    assert_eq!(rt; told(write_act(&peek, &mut bytes)), (14, 17));
+    let too_short = write_act(&peek, &mut bytes);
+    assert_eq!(rt; too_short, Err(WriteRefusal::DoesNotFit { length: 17 }));
+    assert_eq!(rt; told(too_short), (14, 17));
     let far = Act::Read {
         job: 4294967295,
         item: 64,
         value: 4294967295,
     };
-    assert_eq!(rt; told(write_act(&far, &mut bytes)), (5, 64));
+    let too_far = write_act(&far, &mut bytes);
+    assert_eq!(rt; too_far, Err(WriteRefusal::ItemAboveLimit { item: 64 }));
+    assert_eq!(rt; told(too_far), (5, 64));
     assert_eq!(rt; &bytes, b"O,1,,\n.");
 }
 
@@ -182,9 +185,9 @@ fn a_trace_comes_back_as_it_was_written(rt: HostRuntime) {
         Act::Retire,
     ];
     let mut bytes = [b'.'; 64];
-    assert_eq!(rt; told(write_trace(&acts, &mut bytes)), (0, 59));
+    assert_eq!(rt; write_trace(&acts, &mut bytes), Ok(59));
     let mut steps = [BLANK; 7];
-    assert_eq!(rt; read_trace(&bytes[0..59], &mut steps).ok(), Some(7));
+    assert_eq!(rt; read_trace(&bytes[0..59], &mut steps), Ok(7));
     for (i, act) in acts.iter().enumerate() {
         assert_eq!(rt;
             steps[i],
