@@ -1,6 +1,5 @@
 -- The text of a line. Rests on nothing.
 use Rattle.std.specs.Prelude.{ℕ, List, ◌++◌, codes, decimal}
-use Rattle.verdict.specs.declared.judge.Verdict.{Verdict}
 use Rattle.verdict.specs.declared.judge.Verdict.TheVariants.{Yes, No}
 use Rattle.judge.specs.declared.line.Line.{Line}
 use Rattle.judge.specs.declared.line.Line.TheVariants.{Decided, Job, Refused}

@@ -6,7 +6,7 @@ use std::fmt;
 use verdict::judge::Verdict;
 
 // What a line tells.
-#[derive(Clone, Copy)]
+#[derive(Clone, Copy, PartialEq, Eq, Debug)]
 pub(crate) enum Line {
     // The verdict, and how many numbers follow.
     Decided(Verdict),

@@ -1,5 +1,7 @@
 // Judges the trace on standard input: could its jobs have run one after another? Prints the verdict, and
 // the order or the cycle that shows it.
+#![tactic(auto)]
+
 ghost use Rattle.std.specs.Prelude.{IfOk, string_bytes};
 ghost use Rattle.judge.specs.Prints.{Prints};
 

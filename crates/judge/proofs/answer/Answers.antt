@@ -7,10 +7,10 @@ use Rattle.judge.proofs.answer.Goals as goal
 
 pub returns : goal.returns
 returns c =
-    IfOk-weaker c.write-sheet.result _ _
+    IfOk-weaker c.write_sheet.result _ _
     (λ text told. (
-      vec_items c.in-ok-lines.lines,
-      c.in-ok-lines.ensures,
+      vec_items c.in_ok-lines.lines,
+      c.in_ok-lines.ensures,
       told line_text (λ l. refl) ∙ ap (λ (z : List Line). sheet_text line_text (codes "verdict,count") z) c.deref.ensures.value,
     ))
-    c.write-sheet.ensures
+    c.write_sheet.ensures
