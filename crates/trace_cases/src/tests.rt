@@ -1,3 +1,4 @@
+use std::test::Fail;
 use trace::act::{Act, Step};
 use trace::fault::{ReadRefusal, WriteRefusal};
 use trace_reader::reader::{read_input, read_trace};
@@ -12,8 +13,9 @@ const BLANK: Step = Step {
 #[derive(Clone, Copy, PartialEq, Eq, Debug)]
 struct Refused(u32, u32, u32, usize, usize);
 
-fn reason(answer: Result<usize, ReadRefusal>) -> Refused {
-    match answer {
+fn outcome(trace: &[u8]) -> Refused {
+    let mut steps = [BLANK; 2];
+    match read_trace(trace, &mut steps) {
         Ok(_) => Refused(0, 0, 0, 0, 0),
         Err(why) => match why {
             ReadRefusal::Line(fault) => Refused(
@@ -24,22 +26,6 @@ fn reason(answer: Result<usize, ReadRefusal>) -> Refused {
                 fault.place.start,
             ),
             ReadRefusal::Full { line } => Refused(why.number(), 0, 0, line, 0),
-        },
-    }
-}
-
-fn outcome(trace: &[u8]) -> Refused {
-    let mut steps = [BLANK; 2];
-    reason(read_trace(trace, &mut steps))
-}
-
-// What a writer answers: the number of the refusal, or 0, and the length or the item that it tells.
-fn told(answer: Result<usize, WriteRefusal>) -> (u32, usize) {
-    match answer {
-        Ok(length) => (0, length),
-        Err(why) => match why {
-            WriteRefusal::ItemAboveLimit { item } => (why.number(), item as usize),
-            WriteRefusal::DoesNotFit { length } => (why.number(), length),
         },
     }
 }
@@ -128,15 +114,19 @@ fn a_list_keeps_the_places_that_are_not_read_into(rt: HostRuntime) {
 }
 
 #[test]
-fn an_input_that_is_too_long_is_not_looked_at(rt: HostRuntime) {
+fn an_input_that_is_too_long_is_not_looked_at(rt: HostRuntime) -> Result<(), Fail> {
     let mut steps = [BLANK; 1];
-    let too_long = read_input(&[b'\n'; 32769], &mut steps);
-    assert_eq!(rt; too_long, Err(ReadRefusal::Full { line: 0 }));
-    assert_eq!(rt; reason(too_long), Refused(13, 0, 0, 0, 0));
     assert_eq!(rt;
-        reason(read_input(&[b'\n'; 32768], &mut steps)),
-        Refused(9, 2, 0, 1, 0)
+        read_input(&[b'\n'; 32769], &mut steps),
+        Err(ReadRefusal::Full { line: 0 })
     );
+    match read_input(&[b'\n'; 32768], &mut steps) {
+        Err(ReadRefusal::Line(fault)) => {
+            assert_eq!(rt; fault.cause(), 2);
+            Ok(())
+        },
+        _ => Err(Fail::new("a line at fault")),
+    }
 }
 
 #[test]
@@ -148,17 +138,19 @@ fn a_line_is_written_where_it_fits(rt: HostRuntime) {
         item: 10,
         value: 4294967295,
     };
-    let too_short = write_act(&peek, &mut bytes);
-    assert_eq!(rt; too_short, Err(WriteRefusal::DoesNotFit { length: 17 }));
-    assert_eq!(rt; told(too_short), (14, 17));
+    assert_eq!(rt;
+        write_act(&peek, &mut bytes),
+        Err(WriteRefusal::DoesNotFit { length: 17 })
+    );
     let far = Act::Read {
         job: 4294967295,
         item: 64,
         value: 4294967295,
     };
-    let too_far = write_act(&far, &mut bytes);
-    assert_eq!(rt; too_far, Err(WriteRefusal::ItemAboveLimit { item: 64 }));
-    assert_eq!(rt; told(too_far), (5, 64));
+    assert_eq!(rt;
+        write_act(&far, &mut bytes),
+        Err(WriteRefusal::ItemAboveLimit { item: 64 })
+    );
     assert_eq!(rt; &bytes, b"O,1,,\n.");
 }
 
@@ -196,5 +188,46 @@ fn a_trace_comes_back_as_it_was_written(rt: HostRuntime) {
                 act: *act,
             }
         );
+    }
+}
+
+// What a writer answers: the number of the refusal, or 0, and the length or the item that it tells.
+fn told(answer: Result<usize, WriteRefusal>) -> (u32, usize) {
+    match answer {
+        Ok(length) => (0, length),
+        Err(why) => match why {
+            WriteRefusal::ItemAboveLimit { item } => (why.number(), item as usize),
+            WriteRefusal::DoesNotFit { length } => (why.number(), length),
+        },
+    }
+}
+
+#[test]
+fn a_refusal_tells_its_number_and_its_place(rt: HostRuntime) -> Result<(), Fail> {
+    let mut bytes = [b'.'; 7];
+    let peek = Act::Peek {
+        item: 10,
+        value: 4294967295,
+    };
+    assert_eq!(rt; told(write_act(&peek, &mut bytes)), (14, 17));
+    let far = Act::Read {
+        job: 4294967295,
+        item: 64,
+        value: 4294967295,
+    };
+    assert_eq!(rt; told(write_act(&far, &mut bytes)), (5, 64));
+    let mut steps = [BLANK; 1];
+    match read_input(&[b'\n'; 32769], &mut steps) {
+        Err(why) => {
+            assert_eq!(rt; why.number(), 13);
+        }
+        Ok(_) => return Err(Fail::new("an input that is too long")),
+    }
+    match read_input(&[b'\n'; 32768], &mut steps) {
+        Err(ReadRefusal::Line(fault)) => {
+            assert_eq!(rt; (fault.place.line, fault.place.start), (1, 0));
+            Ok(())
+        }
+        _ => Err(Fail::new("a line at fault")),
     }
 }
