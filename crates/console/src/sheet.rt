@@ -19,10 +19,7 @@ fn begin_sheet(heap: Global, header: &str) -> Result<String, AllocError>
 fn add_line<T: Display>(text: &mut String, line: &T) -> Result<(), AllocError>
     ensures { OnOk result (((bs : List ℕ) → T.Display.output line.now ≡ Some bs → string_bytes text.new ≡ string_bytes text.old ++ ended bs)) }
 {
-    match text.writeln(line) {
-        Ok(()) => Ok(()),
-        Err(_) => Err(AllocError),
-    }
+    text.writeln(line)
 }
 
 // Adds lines to a text, and ends each.

@@ -27,10 +27,10 @@ fn has_room(room: u64, puts: usize) -> bool
 }
 
 // How many items a hub serves of so many.
-fn served_of(items: usize) -> u32
+fn served_of(items: usize) -> usize
     ensures { result ≡ min 64 items }
 {
-    items.min(64) as u32
+    items.min(64)
 }
 
 // A hub runs jobs over the items of a store: it serves the first 64 of them, or all if these are fewer.

@@ -20,12 +20,12 @@ fn put_item<S: Store>(store: &mut S, core: &Core, job: u32, item: u32)
 }
 
 // Puts what the job holds of the first items into the store, smaller items first.
-pub(crate) fn put_held<S: Store>(store: &mut S, core: &Core, job: u32, served: u32)
+pub(crate) fn put_held<S: Store>(store: &mut S, core: &Core, job: u32, served: usize)
     requires { (served ≡ min 64 (length (S.Store.values store.old))) × (length (holdings (machine core.now (S.Store.values store.old) (S.Store.room store.old)) job) ≤ S.Store.room store.old) }
     ensures means { PutAll (machine core.now (S.Store.values store.old) (S.Store.room store.old)) job (S.Store.values store.new) (S.Store.room store.new) }
     ensures turns { PutInTurn S.Store.becomes store.old (held_pairs (machine core.now (S.Store.values store.old) (S.Store.room store.old)) job) store.new }
 {
     for item in 0..served {
-        put_item(store, core, job, item);
+        put_item(store, core, job, item as u32);
     }
 }

@@ -3,7 +3,7 @@ use Rattle.std.proofs.Common.{◌≡◌, ℕ, ◌+◌, ◌<◌, ◌≤◌, List,
 use Rattle.std.proofs.lemmas.List.{append_assoc, append-nil, drop_more, drop_all, take_at}
 use Rattle.trace.specs.declared.act.Act.TheVariants.{Retire}
 use Rattle.trace.specs.declared.act.Step.{Step}
-use Rattle.history.specs.Machine.{State, Call, retire as retire-call, wrote, Steps, Retires}
+use Rattle.history.specs.Machine.{State, Call, retire as retire_call, wrote, Steps, Retires}
 use Rattle.lines.specs.declared.line.Outcome.TheVariants.{Count, Retired}
 use Rattle.lines.specs.declared.line.Line.{Line}
 use Rattle.rehearsal.specs.Playing.{call_of, retired_lines, Answered}
@@ -37,7 +37,7 @@ pub retire_told : (s t : State) (step : Step) (lent left : List ℕ) (count : �
     → Answered s step before t after
 retire_told s t step lent left count before between after a n (js, q, e, w) p r =
     let written : take count left ≡ js = ap (λ (z : List ℕ). take count z) w ∙ take_at js (drop (length js) lent) count (sym e) in
-    let called : retire-call (length lent) ≡ call_of step.act = ap retire-call n ∙ ap call_of (sym a) in
+    let called : retire_call (length lent) ≡ call_of step.act = ap retire_call n ∙ ap call_of (sym a) in
     record {
       told = wrote js;
       steps = subst (λ (c : Call). Steps s c (wrote js) t) called q;

@@ -5,7 +5,7 @@ use Rattle.trace.specs.declared.act.Act.{Act}
 use Rattle.trace.specs.declared.act.Act.TheVariants.{Open, Read, Write, Commit, Abort, Peek, Retire}
 use Rattle.trace.specs.declared.act.Step.{Step}
 use Rattle.trace.specs.declared.fault.ReadRefusal.{ReadRefusal}
-use Rattle.console.specs.Inputs.{read as read-input, steps_of}
+use Rattle.console.specs.Inputs.{read as read_input, steps_of}
 use Rattle.history.specs.Machine.{State, made, Call, begin, read, write, commit, abort, retire, peek, Answer, answered, done, wrote, refused, answer, after_call, Steps}
 use Rattle.history.specs.Runs.{Turn, Runs, acts_of, retired_by, retired_of}
 use Rattle.history.specs.Promises.{Serializable}
@@ -110,4 +110,4 @@ RehearsedUnless (Some why) steps lines = lines ≡ refusal_line why ∷ []
 
 -- these are the lines of the trace in an input
 abbrev pub RehearsedInput : List ℕ → List Line → Type 0
-RehearsedInput bytes lines = RehearsedUnless (read-input bytes).stop (steps_of (read-input bytes)) lines
+RehearsedInput bytes lines = RehearsedUnless (read_input bytes).stop (steps_of (read_input bytes)) lines

@@ -225,7 +225,11 @@ fn a_refusal_tells_its_number_and_its_place(rt: HostRuntime) -> Result<(), Fail>
     }
     match read_input(&[b'\n'; 32768], &mut steps) {
         Err(ReadRefusal::Line(fault)) => {
-            assert_eq!(rt; (fault.place.line, fault.place.start), (1, 0));
+            assert_eq!(rt; ReadRefusal::Line(fault).number(), 9);
+            assert_eq!(rt;
+                (fault.field(), fault.place.line, fault.place.start),
+                (0, 1, 0)
+            );
             Ok(())
         }
         _ => Err(Fail::new("a line at fault")),

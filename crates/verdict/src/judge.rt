@@ -52,15 +52,22 @@ fn has_all(list: &NodeList, set: NodeSet) -> bool
     is_empty(missing)
 }
 
-// A cycle among the jobs that count, by their nodes, if there is one. There is none where their order has them all.
-fn cycle_of(ledger: &Ledger, order: &NodeList) -> Option<NodeList>
+// A cycle among the jobs that count, by their nodes, if there is one.
+fn cycle_of(ledger: &Ledger) -> Option<NodeList>
+    ensures { NodeCycle ledger.now result }
+{
+    find_cycle(&ledger.into, ledger.kept)
+}
+
+// The same, where the order of the jobs that count is known: there is no cycle if it has them all.
+fn cycle_beside(ledger: &Ledger, order: &NodeList) -> Option<NodeList>
     requires { NodeOrder ledger.now order.now }
     ensures { NodeCycle ledger.now result }
 {
     if has_all(order, ledger.kept) {
         return None;
     }
-    find_cycle(&ledger.into, ledger.kept)
+    cycle_of(ledger)
 }
 
 // The order of the jobs that count, by their nodes: the smallest number first wherever the edges leave a choice.
@@ -94,7 +101,7 @@ fn decide(ledger: &Ledger, numbers: &mut [u32]) -> Verdict
     ensures { (H : List Act) → Keeps H ledger.now → Decides not_aborted H numbers.old result numbers.new }
 {
     let order = order_of(ledger);
-    match cycle_of(ledger, &order) {
+    match cycle_beside(ledger, &order) {
         Some(cycle) => show_cycle(ledger, &cycle, numbers),
         None => show_order(ledger, &order, numbers),
     }
