@@ -1,24 +1,15 @@
 -- How the records of a list of bytes are counted and what they hold when one is appended.
-use Rattle.std.proofs.Common.{◌≡◌, ℕ, zero, suc, ◌+◌, ◌-◌, ◌*◌, ◌/◌, ◌%◌, ◌^◌, ◌<◌, ◌≤◌, true, false, cond, eqb, List, ◌++◌, length, get_or, take, drop, set, Some, None, sym, refl, ap, ◌∙◌, inl, inr, add-one, arith, get_or-set_other, get_or-set_same, rules, below_more}
+use Rattle.std.proofs.Common.{◌≡◌, ℕ, zero, suc, ◌+◌, ◌-◌, ◌*◌, ◌/◌, ◌%◌, ◌^◌, ◌<◌, ◌≤◌, cond, eqb, List, [], ◌∷◌, ◌++◌, length, get_or, take, drop, set, Some, None, sym, refl, ap, ◌∙◌, inl, inr, ◌==◌, reverse, add-one, arith, get_or-set_other, get_or-set_same, rules, below_more}
 use borrow.Rule.Slice.PartMut.{put_mid}
-use Rattle.std.proofs.lemmas.List.{places, drop-drop, get_or_append_left, get_or-append_right, same_lists, length-set}
+use Rattle.std.proofs.lemmas.List.{places, drop-drop, reverse-append, get_or_append_left, get_or-append_right, same_lists, length-set}
+use Rattle.std.proofs.lemmas.Grind.{common_steps}
 use Rattle.std.proofs.lemmas.Bool.{cases_eq, cond-true, cond-false, cond_both, eqb-true, eqb-false, lt-ltb, le-ltb, eq-eqb, ne_eqb}
 use Rattle.std.proofs.lemmas.Nat.{shr-shr, shr_split}
 use Rattle.std.proofs.lemmas.List.FromFn.{length-map-range_with_len, get_or-map-range_with_len}
+use Rattle.std.specs.List.{prefix_len, find}
+use Rattle.std.specs.Option.{option_map_or}
 use Rattle.store.specs.Stores.{at}
-use Rattle.store.specs.Records.{whole, byte_of, mark_of, item_of, value_of, unmarked_from, used_in, UsedFront, held, Latest, contents, written, with_record}
-
--- a marked record is passed over
-pub unmarked_more : (bytes : List ℕ) (n w : ℕ) → n < w → eqb (mark_of bytes n) 165 ≡ true → unmarked_from bytes n (w - n) ≡ unmarked_from bytes (n + 1) (w - (n + 1))
-unmarked_more bytes n w h m =
-    let e : w - n ≡ suc (w - (n + 1)) = omega arith in
-    rw (e, m) refl
-
--- a record with no mark ends the count
-pub unmarked_here : (bytes : List ℕ) (n w : ℕ) → n < w → eqb (mark_of bytes n) 165 ≡ false → unmarked_from bytes n (w - n) ≡ n
-unmarked_here bytes n w h m =
-    let e : w - n ≡ suc (w - (n + 1)) = omega arith in
-    rw (e, m) refl
+use Rattle.store.specs.Records.{whole, records, byte_of, mark_of, item_of, value_of, value_in, unmarked_from, used_in, UsedFront, held, Latest, contents, written, with_record}
 
 -- a byte below the record that is appended stays
 pub below_record : (bytes : List ℕ) (n item value : ℕ) → n < whole bytes → (k : ℕ) → k < n * 8 → get_or (with_record bytes n item value) k 0 ≡ get_or bytes k 0
@@ -72,14 +63,6 @@ contents_appended bytes items n item value h v l =
       | inr ne ↦ cond-false (eqb item k) value (before k) (ne_eqb item k ne) ∙ sym (get_or-set_other (contents bytes items n) item k value d (λ e. ne (sym e)) ∙ get_or-map-range_with_len before 0 items k k d k_in (omega arith))
     ])
 
--- the last record decides if it is of the item
-pub held_here : (bytes : List ℕ) (item n last : ℕ) → n ≡ suc last → eqb (item_of bytes last) item ≡ true → held bytes item n ≡ value_of bytes last
-held_here bytes item n last p e = rw (p, e) refl
-
--- and else those before it
-pub held_before : (bytes : List ℕ) (item n last : ℕ) → n ≡ suc last → eqb (item_of bytes last) item ≡ false → held bytes item n ≡ held bytes item last
-held_before bytes item n last p e = rw (p, e) refl
-
 -- there is a value for each item
 pub length_contents : (bytes : List ℕ) (items n : ℕ) → length (contents bytes items n) ≡ items
 length_contents bytes items n = length-map-range_with_len (λ item. held bytes item n) 0 items
@@ -126,3 +109,42 @@ held_latest bytes item (suc n) =
       | inl found ↦ inl (found.0, (omega (arith, found.1.0), found.1.1, last_of_more bytes item n other (λ j. found.0 < j) found.1.2), found.2)
       | inr none ↦ inr (λ k l. last_of_more bytes item n other (λ j. Unit {0}) (λ j _. none.0 j) k tt l, none.1)
     ])
+
+-- a byte of a record, cut out
+pub byte_in : (bytes : List ℕ) (n k : ℕ) → k < 8 → get_or (take 8 (drop (n * 8) bytes)) k 0 ≡ byte_of bytes n k
+byte_in bytes n k l = search (rules, places)
+
+-- the first of the first records
+pub first_records : (bytes : List ℕ) (k n : ℕ) → k ≤ n → take k (records bytes n) ≡ records bytes k
+first_records bytes zero n l = refl
+first_records bytes (suc k) zero l = absurd (omega arith)
+first_records bytes (suc k) (suc n) l = ap (λ rs. take 8 bytes ∷ rs) (first_records (drop 8 bytes) k n (omega arith))
+
+-- one record more
+pub records_more : (bytes : List ℕ) (n : ℕ) → records bytes (suc n) ≡ records bytes n ++ (take 8 (drop (n * 8) bytes) ∷ [])
+records_more bytes zero = refl
+records_more bytes (suc n) =
+    let at : 8 + n * 8 ≡ suc n * 8 = omega arith in
+    ap (λ rs. take 8 bytes ∷ rs) (records_more (drop 8 bytes) n ∙ ap (λ xs. records (drop 8 bytes) n ++ (take 8 xs ∷ [])) (drop-drop (n * 8) 8 bytes ∙ ap (λ k. drop k bytes) at))
+
+-- how many records from record n on are marked
+marked_records : (bytes : List ℕ) (n k : ℕ) → n + prefix_len (λ r. get_or r 0 0 == 165) (records (drop (n * 8) bytes) k) ≡ unmarked_from bytes n k
+marked_records bytes n zero = omega arith
+marked_records bytes n (suc k) =
+    let mark : get_or (take 8 (drop (n * 8) bytes)) 0 0 ≡ mark_of bytes n = byte_in bytes n 0 (omega arith) ∙ ap (λ j. get_or bytes j 0) (omega arith) in
+    let next : drop 8 (drop (n * 8) bytes) ≡ drop ((n + 1) * 8) bytes = drop-drop 8 (n * 8) bytes ∙ ap (λ j. drop j bytes) (omega arith) in
+    let rest : n + 1 + prefix_len (λ r. get_or r 0 0 == 165) (records (drop 8 (drop (n * 8) bytes)) k) ≡ unmarked_from bytes (n + 1) k = rw next (marked_records bytes (n + 1) k) in
+    rw mark (grind (arith, common_steps, rest))
+
+-- how many records are used
+pub count_marked : (bytes : List ℕ) → prefix_len (λ r. get_or r 0 0 == 165) (records bytes (whole bytes)) ≡ used_in bytes
+count_marked bytes = omega (arith, marked_records bytes 0 (whole bytes))
+
+-- what an item holds by the first n records, looked for from the back
+pub last_record : (bytes : List ℕ) (item n : ℕ) → held bytes item n ≡ option_map_or value_in (find (λ r. get_or r 1 0 == item) (reverse (records bytes n))) 0
+last_record bytes item zero = refl
+last_record bytes item (suc n) =
+    let byte = byte_in bytes n in
+    let back : reverse (records bytes (suc n)) ≡ take 8 (drop (n * 8) bytes) ∷ reverse (records bytes n) = ap (λ rs. reverse rs) (records_more bytes n) ∙ reverse-append (records bytes n) (take 8 (drop (n * 8) bytes) ∷ []) in
+    rw (back, byte 1 (omega arith)) (cond_both (item_of bytes n == item) (value_of bytes n) (held bytes item n) (λ v. v ≡ option_map_or value_in (cond (item_of bytes n == item) (Some (take 8 (drop (n * 8) bytes))) (find (λ r. get_or r 1 0 == item) (reverse (records bytes n)))) 0) (λ e.
+    rw (e, byte 4 (omega arith), byte 5 (omega arith), byte 6 (omega arith), byte 7 (omega arith)) refl) (λ e. rw e (last_record bytes item n)))

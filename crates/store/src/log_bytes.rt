@@ -1,6 +1,6 @@
-ghost use Rattle.std.specs.Prelude.{◌≡◌, ℕ, ◌-◌, ◌/◌, ◌<◌, ◌≤◌, min, List, length, MatchOption, ◌==◌};
+ghost use Rattle.std.specs.Prelude.{◌≡◌, ℕ, ◌-◌, ◌/◌, ◌<◌, ◌≤◌, min, List, length, MatchOption, ◌==◌, slice_index};
 ghost use Rattle.store.specs.Stores.{at};
-ghost use Rattle.store.specs.Records.{whole, mark_of, item_of, value_of, held, contents, used_in, Latest, written, with_record};
+ghost use Rattle.store.specs.Records.{whole, records, held, value_in, contents, used_in, Latest, written, with_record};
 ghost use Rattle.store.specs.Logs.{NextFree};
 
 use super::store::PutRefused;
@@ -18,41 +18,37 @@ pub(crate) fn count_items(items: u8) -> usize
     usize::from(items)
 }
 
-// Whether record n has the mark of a used one.
-fn is_marked(bytes: &[u8], n: usize) -> bool
-    requires { n < whole bytes.now }
-    ensures { result ≡ (mark_of bytes.now n == 165) }
+// The whole records, from the front.
+fn records(bytes: &[u8]) -> &[[u8; 8]]
+    ensures { result.now ≡ records bytes.now (whole bytes.now) }
 {
-    bytes[n * RECORD] == MARK
+    let (records, _) = bytes.as_chunks();
+    records
+}
+
+// Whether a record has the mark of a used one.
+fn is_marked(bytes: &[u8; 8]) -> bool
+    ensures { result ≡ (slice_index bytes.now 0 == 165) }
+{
+    bytes[0] == MARK
 }
 
 // The number of records from the front up to the first that has no mark.
 pub(crate) fn count_used(bytes: &[u8]) -> usize
     ensures { result ≡ used_in bytes.now }
 {
-    let whole = bytes.len() / RECORD;
-    let mut used = 0;
-    while used < whole && is_marked(bytes, used) {
-        used += 1;
-    }
-    used
+    records(bytes)
+        .iter()
+        .take_while(|record| is_marked(record))
+        .count()
 }
 
-// Whether record n is of an item.
-fn is_of(bytes: &[u8], n: usize, item: u8) -> bool
-    requires { n < whole bytes.now }
-    ensures { result ≡ (item_of bytes.now n == item) }
+// The value in a record.
+fn read_value(bytes: &[u8; 8]) -> u32
+    ensures { result ≡ value_in bytes.now }
 {
-    bytes[n * RECORD + 1] == item
-}
-
-// The value in record n.
-fn read_value(bytes: &[u8], n: usize) -> u32
-    requires { n < whole bytes.now }
-    ensures { result ≡ value_of bytes.now n }
-{
-    let at = n * RECORD;
-    u32::from_be_bytes([bytes[at + 4], bytes[at + 5], bytes[at + 6], bytes[at + 7]])
+    let [_, _, _, _, a, b, c, d] = *bytes;
+    u32::from_be_bytes([a, b, c, d])
 }
 
 // The value in the last of the first records that is of an item, or 0 if none is. It looks from the
@@ -61,12 +57,11 @@ fn last_value(bytes: &[u8], item: u8, used: usize) -> u32
     requires { used ≤ whole bytes.now }
     ensures { result ≡ held bytes.now item used }
 {
-    for n in (0..used).rev() {
-        if is_of(bytes, n, item) {
-            return read_value(bytes, n);
-        }
-    }
-    0
+    records(bytes)[..used]
+        .iter()
+        .rev()
+        .find(|record| record[1] == item)
+        .map_or(0, read_value)
 }
 
 // The value of an item by the used records, or nothing for an item from `items` on.

@@ -55,6 +55,7 @@ impl<'a> Store for MemoryStore<'a> {
         ensures turns { Turns memory_becomes self.old item value result self.new }
         ensures lender { self.new.values.ghost_name ≡ self.old.values.ghost_name }
     {
+        // By a test and an index: of a lent field the check does not know what `get_mut` leaves.
         let place = item as usize;
         if place < self.values.len() {
             self.values[place] = value;

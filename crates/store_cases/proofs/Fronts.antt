@@ -1,9 +1,8 @@
 -- What a store holds while values are put to its items from item 0 on.
-use Rattle.std.proofs.Common.{◌≡◌, ℕ, ◌+◌, ◌-◌, ◌<◌, ◌≤◌, min, List, [], ◌∷◌, ◌++◌, length, get_or, take, drop, set, Ok, Err, sym, ap, ◌∙◌, append_assoc, arith, rules}
+use Rattle.std.proofs.Common.{◌≡◌, ℕ, ◌+◌, ◌-◌, ◌<◌, ◌≤◌, List, [], ◌∷◌, ◌++◌, length, get_or, take, drop, set, Ok, Err, Result, is_err, false, true≢false, sym, ap, ◌∙◌, append_assoc, arith, rules}
 use Rattle.std.proofs.lemmas.List.{set-append_right, drop_more, take_more, places, length-append, length-take, length-drop}
 use Rattle.store.specs.Stores.{Puts}
 use Rattle.store.specs.declared.store.PutRefused.{PutRefused}
-use Rattle.store.specs.declared.store.PutRefused.TheVariants.{Outside, NoRoom}
 
 -- the first i values were put over the old ones, and took at most i of the room
 pub record Front (old new : List ℕ) (room : ℕ) (i : ℕ) (values : List ℕ) (left : ℕ) : Type 0 where
@@ -28,7 +27,7 @@ module _ {old new values : List ℕ} {room i left : ℕ} (front : Front old new 
   front_length = ap length front.is ∙ simp (length-append, length-take, length-drop) (omega (arith, front.inside))
 
   -- a granted put adds a value to the front
-  pub front_more : {values' : List ℕ} {left' : ℕ} → Puts values left i (get_or new i 0) (Ok tt) values' left' → Front old new room (i + 1) values' left'
+  front_more : {values' : List ℕ} {left' : ℕ} → Puts values left i (get_or new i 0) (Ok tt) values' left' → Front old new room (i + 1) values' left'
   front_more p =
       let lo : i < length old = omega (arith, front_length, p.0) in
       record {
@@ -37,9 +36,7 @@ module _ {old new values : List ℕ} {room i left : ℕ} (front : Front old new 
         taken = omega (arith, front.taken, p.3);
       }
 
-  -- a refused one was to an item outside, or found no room
-  pub front_stops : (e : PutRefused) {values' : List ℕ} {left' : ℕ} → Puts values left i (get_or new i 0) (Err e) values' left' → Front old new room i values' left' × (min (length old) room ≤ i)
-  front_stops Outside p =
-      (record { is = p.1 ∙ front.is; inside = front.inside; taken = omega (arith, front.taken, p.2) }, omega (arith, front_length, p.0))
-  front_stops NoRoom p =
-      (record { is = p.2 ∙ front.is; inside = front.inside; taken = omega (arith, front.taken, p.3) }, omega (arith, front.taken, p.1))
+  -- the same, told by the answer
+  pub front_granted : (r : Result (Unit {0}) PutRefused) {values' : List ℕ} {left' : ℕ} → is_err r ≡ false → Puts values left i (get_or new i 0) r values' left' → Front old new room (i + 1) values' left'
+  front_granted (Ok _) e p = front_more p
+  front_granted (Err _) e p = absurd (true≢false e)

@@ -21,12 +21,11 @@ pub fn put_front<S: Store>(store: &mut S, values: &[u32]) -> usize
     ensures least { min (min 64 (length values.now)) (min (length (S.Store.values store.old)) (S.Store.room store.old)) ≤ result }
     ensures room { S.Store.room store.old ≤ S.Store.room store.new + result }
 {
-    let count = values.len().min(64);
-    for item in 0..count {
-        match store.put(item as u32, values[item]) {
-            Ok(()) => {}
-            Err(_) => return item,
+    let front = &values[..values.len().min(64)];
+    for (item, value) in front.iter().enumerate() {
+        if store.put(item as u32, *value).is_err() {
+            return item;
         }
     }
-    count
+    front.len()
 }

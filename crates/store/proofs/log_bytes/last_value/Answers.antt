@@ -1,15 +1,26 @@
-use Rattle.std.proofs.Common.{◌≡◌, suc, ◌-◌, sym, ◌∙◌, arith}
-use Rattle.store.proofs.Records.{held_here, held_before}
+use Rattle.std.proofs.Common.{ℕ, zero, suc, List, Option, Some, None, MatchOption, ◌==◌, ◌≡◌, length, get_or, take, drop, refl, ap, ◌∙◌, rules, sym}
+use borrow.Author.Tests.{tests}
+use Rattle.std.specs.Option.{option_map, option_map_or}
+use Rattle.std.proofs.lemmas.Iterator.Adapters.{YieldsList-from_rev_slice}
+use Rattle.std.specs.Slice.Iter.{iter_rest}
+use Rattle.std.proofs.lemmas.Iterator.Search.{find_from_yields_List}
+use Rattle.store.specs.Records.{records, value_in}
+use Rattle.store.proofs.Records.{first_records, last_record}
 use Rattle.store.proofs.log_bytes.last_value.Goals as goal
 
-pub returns-then-is_of : goal.returns-then-is_of
-returns-then-is_of c =
-    let last : c.loop-n.n ≡ suc (c.loop-n.n - 1) = omega arith in
-    let of-item = sym c.if-is_of.ensures in
-    c.read_value.ensures ∙ sym (held_here _ _ _ _ last of-item) ∙ c.loop-n.invariant
+length_records : (bytes : List ℕ) (n : ℕ) → length (records bytes n) ≡ n
+length_records bytes zero = refl
+length_records bytes (suc n) = ap (λ k. suc k) (length_records (drop 8 bytes) n)
 
-pub loop-n-preserved : goal.loop-n-preserved
-loop-n-preserved c =
-    let last : c.loop-n.n ≡ suc (c.loop-n.n - 1) = omega arith in
-    let of-another = sym c.if-is_of.ensures in
-    sym (held_before _ _ _ _ last of-another) ∙ c.loop-n.invariant
+read_found : {T : Type 0} (now : T → List ℕ) (r : Option T) (found : Option (List ℕ)) (value : ℕ) → option_map now r ≡ found → MatchOption r (value ≡ 0) (λ x. value ≡ value_in (now x)) → value ≡ option_map_or value_in found 0
+read_found now None found value e is = rw (← e) is
+read_found now (Some x) found value e is = rw (← e) is
+
+pub slice_bounds-iter-end : goal.slice_bounds-iter-end
+slice_bounds-iter-end c = rw (c.records.ensures, first_records _ _ _ c.requires) (sym (length_records _ _))
+
+pub returns : goal.returns
+returns c =
+    let item = c.args.item in
+    let found = find_from_yields_List (λ r. get_or r 1 0 == item) _ _ c.find.result c.find.ensures.ran (YieldsList-from_rev_slice (records c.args.bytes.now c.args.used) (ap (λ s. iter_rest s) c.rev.ensures.source ∙ c.iter.ensures.rest ∙ ap (λ rs. take c.args.used rs) c.records.ensures ∙ first_records _ _ _ c.requires)) (λ x b q k. search (rules, tests)) in
+    read_found _ _ _ _ found (search rules) ∙ sym (last_record c.args.bytes.now c.args.item c.args.used)
