@@ -1,9 +1,9 @@
 -- The tables of the scheduler, which go by slot, read as the state of the machine, which goes by job
 -- number. Rests on Slots and on the machine.
-use Rattle.std.specs.Prelude.{◌≡◌, ℕ, ◌+◌, ◌<◌, ◌≤◌, true, List, [], ◌∷◌, length, Some, None, Ok, Err, Option, Result, nat_le, nat_lt, slice_index, slice_index_or, slice_set}
+use Rattle.std.specs.Prelude.{◌≡◌, ℕ, ◌+◌, ◌<◌, ◌≤◌, true, List, [], ◌∷◌, length, Some, None, Ok, Err, Option, Result, nat_le, slice_index, slice_index_or, slice_set}
 use Rattle.graph.specs.Nodes.{has}
 use Rattle.history.specs.declared.refusal.Refusal.{Refusal}
-use Rattle.history.specs.declared.refusal.Refusal.TheVariants.{TableFull, NumbersSpent, ItemNotServed}
+use Rattle.history.specs.declared.refusal.Refusal.TheVariants.{ItemNotServed}
 use Rattle.history.specs.Machine.{State, not_running, refuse_if, held_by_another, ◌else◌, retirable, those, rising, holds, holdings, has_ended, put_all}
 use Rattle.scheduler.specs.declared.tables.ItemState.{ItemState}
 use Rattle.scheduler.specs.declared.tables.Tables.{Tables}
@@ -100,12 +100,6 @@ ReadersTaken t = (p : Mark (λ x. (item t.items x).readers)) → Taken t.jobs.sl
 
 abbrev pub WritersTaken : Tables → Type 0
 WritersTaken t = (p : Mark (λ x. (item t.items x).writers)) → Taken t.jobs.slots p.a
-
--- a job can be opened where this is the first free slot and this the next number, or is refused so
-abbrev pub MayOpen : ℕ → ℕ → Option Refusal → Type 0
-MayOpen free next None = (free < 32) × (next ≤ 4294967295)
-MayOpen free next (Some r) =
-    (refuse_if (nat_le 32 free) TableFull else refuse_if (nat_lt 4294967295 next) NumbersSpent) ≡ Some r
 
 -- what an open does to the tables, by its answer: granted, the first free slot is that of the job, which
 -- runs, and the next number is one larger; nothing else changes, and nothing at all where it is refused

@@ -4,7 +4,7 @@ ghost use Rattle.history.specs.Machine.{Aborts, removed, holds, holdings, put_al
 ghost use Rattle.scheduler.specs.Reading.{state, Sound, RunsAt, Stopped, Ended, Counted, held_below};
 ghost use Rattle.scheduler.specs.Slots.{slot_of};
 
-use super::slots::{SlotStatus, close, find, vacate};
+use super::slots::{SlotStatus, find};
 use super::sweeps::{clear_edges, clear_items, release_items};
 use super::tables::Tables;
 use history::holding::Holding;
@@ -26,10 +26,7 @@ impl Tables {
         requires { Sound self.now }
         ensures { MatchResult result (RunsAt self.now job) (Stopped self.now job) }
     {
-        let slot = find(&self.jobs.slots, job);
-        if slot >= 32 {
-            return Err(Refusal::NotPresent);
-        }
+        let slot = find(&self.jobs.slots, job).ok_or(Refusal::NotPresent)?;
         match self.jobs.slots[slot].status {
             SlotStatus::Free => Err(Refusal::NotPresent),
             SlotStatus::Running => Ok(slot as u32),
@@ -43,7 +40,7 @@ impl Tables {
         ensures sound { Sound self.new }
         ensures removes { (values : List ℕ) (room : ℕ) → state self.new values room ≡ removed job (state self.old values room) }
     {
-        vacate(&mut self.jobs.slots[slot]);
+        self.jobs.slots[slot].vacate();
         clear_edges(&mut self.jobs.edges, slot);
         clear_items(&mut self.items, job, slot);
     }
@@ -88,7 +85,7 @@ impl Tables {
         ensures sound { Sound self.new }
         ensures ends { (values : List ℕ) (room left : ℕ) → state self.new (put_all (state self.old values room).held (holdings (state self.old values room) job) values) left ≡ has_ended job left (state self.old values room) }
     {
-        close(&mut self.jobs.slots[slot]);
+        self.jobs.slots[slot].close();
         release_items(&mut self.items, job);
     }
 

@@ -1,19 +1,35 @@
-use Rattle.std.proofs.Common.{set, refl, ap}
-use Rattle.scheduler.proofs.Opens.{settled, opened_sound, open_granted, open_refused}
+use Rattle.std.proofs.Common.{rules, ◌≡◌, ◌<◌, None, Some, Ok, set, refl, ap, arith}
+use Rattle.std.proofs.lemmas.Result.{err_from_is_err_and, OkIff-at_ok}
+use Rattle.history.specs.declared.refusal.Refusal.TheVariants.{TableFull, NumbersSpent}
+use Rattle.scheduler.specs.Slots.{is_free}
+use Rattle.scheduler.proofs.JobSlots.{found_at, found_none}
+use Rattle.scheduler.proofs.Opens.{settled, opened_sound, open_granted, open_spent, open_full}
 use Rattle.scheduler.proofs.tables.Tables.open.Goals as goal
 
-pub returns-in-Some : goal.returns-in-Some
-returns-in-Some c = record {
-  sound = c.requires;
-  opens = λ values room. open_refused c.args.self.now c.requires c.find_free-free.result c.find_free-free.ensures values room c.in-Some.refusal c.in-Some.ensures;
-  slot = refl;
-}
+pub returns-in_err-free-clause-opens : goal.returns-in_err-free-clause-opens
+returns-in_err-free-clause-opens c =
+    let none : c.find_free.result ≡ None = grind arith in
+    let p = err_from_is_err_and c.from_residual.result c.from_residual.ensures.1 in
+    let is : c.in_err-free.field-0.0 ≡ TableFull = grind arith in
+    rw (p.1, p.2, is) (open_full c.args.self.now c.requires (found_none is_free c.args.self.now.jobs.slots c.find_free.result c.find_free.ensures none))
 
-pub returns-in-None : goal.returns-in-None
-returns-in-None c =
-    let may = c.in-None.ensures in
-    rw c.settle.ensures (record {
-      sound = opened_sound c.args.self.now c.requires c.find_free-free.result c.find_free-free.ensures may.0 may.1;
-      opens = λ values room. open_granted c.args.self.now c.requires c.find_free-free.result c.find_free-free.ensures may.0 values room may.1;
-      slot = (ap (λ k. set c.args.self.now.jobs.slots k (settled c.args.self.now.next)) c.find_free-free.ensures, refl, refl, refl);
+pub returns-in_err-job-clause-opens : goal.returns-in_err-job-clause-opens
+returns-in_err-job-clause-opens c =
+    let some : c.find_free.result ≡ Some c.in_ok-free.free = grind arith in
+    let at = found_at is_free c.args.self.now.jobs.slots c.find_free.result c.in_ok-free.free c.find_free.ensures some in
+    let p = err_from_is_err_and c.from_residual-in_err-job.result c.from_residual-in_err-job.ensures.1 in
+    let is : c.in_err-job.field-0.0 ≡ NumbersSpent = search rules in
+    rw (p.1, p.2, is) (λ values room. open_spent c.args.self.now c.requires c.in_ok-free.free at.0 (omega (arith, c.requires.0.0)) values room (grind arith))
+
+pub returns : goal.returns
+returns c =
+    let some : c.find_free.result ≡ Some c.in_ok-free.free = grind arith in
+    let at = found_at is_free c.args.self.now.jobs.slots c.find_free.result c.in_ok-free.free c.find_free.ensures some in
+    let low : c.in_ok-free.free < 32 = omega (arith, c.requires.0.0) in
+    let is : c.try_from.result ≡ Ok c.in_ok-job.job = grind arith in
+    let (small, number) = OkIff-at_ok _ _ _ _ c.try_from.ensures is in
+    rw (c.settle.ensures, number) (record {
+      sound = opened_sound c.args.self.now c.requires c.in_ok-free.free at.0 low (omega arith);
+      opens = λ values room. open_granted c.args.self.now c.requires c.in_ok-free.free at.0 low values room (omega arith);
+      slot = (ap (λ k. set c.args.self.now.jobs.slots k (settled c.args.self.now.next)) at.0, refl, refl, refl);
     })
