@@ -1,24 +1,13 @@
 // Ending a job.
 ghost use Rattle.std.specs.Prelude.{◌≡◌, ℕ, ◌<◌, ◌≤◌, List, length, MatchResult};
-ghost use Rattle.history.specs.Machine.{Aborts, removed, holds, holdings, put_all, has_ended};
+ghost use Rattle.history.specs.Machine.{Aborts, removed, holdings, put_all, has_ended};
 ghost use Rattle.scheduler.specs.Reading.{state, Sound, RunsAt, Stopped, Ended, Counted, held_below};
 ghost use Rattle.scheduler.specs.Slots.{slot_of};
 
 use super::slots::{SlotStatus, find};
 use super::sweeps::{clear_edges, clear_items, release_items};
 use super::tables::Tables;
-use history::holding::Holding;
 use history::refusal::Refusal;
-
-// Whether the job holds an item that is held so.
-pub(crate) fn is_held_by(held: Option<Holding>, job: u32) -> bool
-    ensures { result ≡ holds job held }
-{
-    match held {
-        Some(holding) => holding.job == job,
-        None => false,
-    }
-}
 
 impl Tables {
     // The slot of a job that runs.
@@ -36,7 +25,9 @@ impl Tables {
 
     // Takes the job, whose slot this is, out of all tables.
     pub(crate) fn remove(&mut self, job: u32, slot: usize)
-        requires { Sound self.old × (slot ≡ slot_of job self.old.jobs.slots) × (slot < 32) }
+        requires sound { Sound self.old }
+        requires is { slot ≡ slot_of job self.old.jobs.slots }
+        requires low { slot < 32 }
         ensures sound { Sound self.new }
         ensures removes { (values : List ℕ) (room : ℕ) → state self.new values room ≡ removed job (state self.old values room) }
     {
@@ -67,21 +58,20 @@ impl Tables {
 
     // How many of the first items the job holds.
     fn count_below(&self, job: u32, items: usize) -> usize
-        requires { (length self.now.items ≡ 64) × (items ≤ 64) }
+        requires long { length self.now.items ≡ 64 }
+        requires within { items ≤ 64 }
         ensures { result ≡ length (held_below self.now job items) }
     {
-        let mut count = 0;
-        for x in 0..items {
-            if is_held_by(self.items[x].held, job) {
-                count += 1;
-            }
-        }
-        count
+        self.items[..items]
+            .iter()
+            .filter(|item| item.is_held_by(job))
+            .count()
     }
 
     // Notes that the job, which runs in this slot, has committed.
     fn note_commit(&mut self, job: u32, slot: usize)
-        requires { Sound self.old × RunsAt self.old job slot }
+        requires sound { Sound self.old }
+        requires runs { RunsAt self.old job slot }
         ensures sound { Sound self.new }
         ensures ends { (values : List ℕ) (room left : ℕ) → state self.new (put_all (state self.old values room).held (holdings (state self.old values room) job) values) left ≡ has_ended job left (state self.old values room) }
     {

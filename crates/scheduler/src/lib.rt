@@ -4,6 +4,7 @@
 // hub_core the scheduler: the tables with their invariant, and its calls
 // slots    the slots of the job table
 // tables   the job table, the item states and the next number
+// items    one item
 // opening  opening a job
 // stepping reading and writing an item
 // ending   committing and aborting a job
@@ -13,6 +14,7 @@
 
 mod ending;
 pub mod hub_core;
+mod items;
 mod opening;
 mod retiring;
 mod slots;

@@ -32,16 +32,14 @@ impl Tables {
         ensures sound { Sound self.new }
         ensures retires { (values : List ℕ) (room : ℕ) → Retires (state self.old values room) list.old result (state self.new values room) list.new }
     {
-        let mut count = 0;
-        while count < list.len() {
+        for (count, place) in list.iter_mut().enumerate() {
             let Some(slot) = self.next_to_retire() else {
                 return count;
             };
             let job = self.jobs.slots[slot].job;
             self.remove(job, slot);
-            list[count] = job;
-            count += 1;
+            *place = job;
         }
-        count
+        list.len()
     }
 }

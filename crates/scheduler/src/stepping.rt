@@ -10,24 +10,6 @@ use graph::path::find_path;
 use history::holding::Holding;
 use history::refusal::Refusal;
 
-// Why a step of the job on an item that is held so is refused, if it is: another job holds it.
-fn holder_refusal(held: Option<Holding>, job: u32) -> Option<Refusal>
-    ensures { result ≡ held_by_another job held }
-{
-    match held {
-        Some(holding) => {
-            if holding.job == job {
-                None
-            } else {
-                Some(Refusal::ItemHeld {
-                    holder: holding.job,
-                })
-            }
-        }
-        None => None,
-    }
-}
-
 // The slots from which a read by the job of this slot draws edges.
 fn read_sources(item: &ItemState, slot: usize) -> u64
     ensures { Sources item.now false slot result }
@@ -50,16 +32,6 @@ fn draw(rows: &mut [u64; 32], slot: usize, from: u64)
     rows[slot] = union(rows[slot], from);
 }
 
-// Whether a path leads from the slot back to it.
-fn has_cycle(rows: &[u64; 32], slot: usize) -> bool
-    ensures { TellsPath rows.now slot result }
-{
-    match find_path(rows, slot, slot) {
-        Some(_) => true,
-        None => false,
-    }
-}
-
 // Whether edges from these slots to this one would close a cycle.
 fn closes_cycle(rows: &[u64; 32], slot: usize, from: u64) -> bool
     requires { slot < 32 }
@@ -67,33 +39,22 @@ fn closes_cycle(rows: &[u64; 32], slot: usize, from: u64) -> bool
 {
     let mut drawn = *rows;
     draw(&mut drawn, slot, from);
-    has_cycle(&drawn, slot)
-}
-
-// The value of an item as its holder sees it, and as everybody sees it if nobody holds it.
-fn seen(held: Option<Holding>, stored: u32) -> u32
-    ensures { result ≡ held_value held stored }
-{
-    match held {
-        Some(holding) => holding.value,
-        None => stored,
-    }
+    find_path(&drawn, slot, slot).is_some()
 }
 
 impl Tables {
     // The slot of a job that may step on the item as far as the edges allow it.
     fn admit(&self, served: usize, job: u32, item: u32) -> Result<u32, Refusal>
-        requires { Sound self.now × (served ≤ 64) }
+        requires sound { Sound self.now }
+        requires within { served ≤ 64 }
         ensures { MatchResult result (Admitted self.now served job item) (Barred self.now served job item) }
     {
         let slot = self.running(job)?;
         if item as usize >= served {
             return Err(Refusal::ItemNotServed);
         }
-        match holder_refusal(self.items[item as usize].held, job) {
-            Some(refusal) => Err(refusal),
-            None => Ok(slot),
-        }
+        self.items[item as usize].admit(job)?;
+        Ok(slot)
     }
 
     // Reads an item that the store holds this value of, and of whose items so many are served.
@@ -104,7 +65,8 @@ impl Tables {
         item: u32,
         stored: u32,
     ) -> Result<u32, Refusal>
-        requires { Sound self.old × (served ≤ 64) }
+        requires sound { Sound self.old }
+        requires within { served ≤ 64 }
         ensures sound { Sound self.new }
         ensures reads { (values : List ℕ) (room : ℕ) → served ≡ min 64 (length values) → (item < served → stored ≡ slice_index values item) → Reads (state self.old values room) job item result (state self.new values room) }
     {
@@ -121,7 +83,7 @@ impl Tables {
             readers: with(state.readers, slot),
             ..state
         };
-        Ok(seen(state.held, stored))
+        Ok(state.seen(stored))
     }
 
     // Writes an item, of which so many are served: the job holds it from now on.
@@ -132,7 +94,8 @@ impl Tables {
         item: u32,
         value: u32,
     ) -> Result<(), Refusal>
-        requires { Sound self.old × (served ≤ 64) }
+        requires sound { Sound self.old }
+        requires within { served ≤ 64 }
         ensures sound { Sound self.new }
         ensures writes { (values : List ℕ) (room : ℕ) → served ≡ min 64 (length values) → Writes (state self.old values room) job item value result (state self.new values room) }
     {

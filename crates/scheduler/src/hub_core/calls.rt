@@ -66,19 +66,12 @@ impl Core {
     pub fn held_by(&self, job: u32, item: usize) -> Option<u32>
         ensures { result ≡ held_by self.now job item }
     {
-        if item >= 64 {
-            return None;
-        }
-        match self.tables.items[item].held {
-            Some(holding) => {
-                if holding.job == job {
-                    Some(holding.value)
-                } else {
-                    None
-                }
-            }
-            None => None,
-        }
+        self.tables
+            .items
+            .get(item)
+            .and_then(|item| item.held)
+            .filter(|holding| holding.job == job)
+            .map(|holding| holding.value)
     }
 
     // Notes that a running job has committed: what it held is in the store now.

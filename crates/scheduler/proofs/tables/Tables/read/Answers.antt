@@ -9,7 +9,7 @@ use Rattle.scheduler.proofs.tables.Tables.read.Goals as goal
 
 pub returns-in_err-slot : goal.returns-in_err-slot
 returns-in_err-slot c = let p = err_from_is_err_and c.from_residual.result c.from_residual.ensures.1 in rw (p.1, p.2) (record {
-  sound = c.requires.0;
+  sound = c.requires.sound;
   reads = λ values room is val. read_barred c.args.self.now c.args.job c.args.item c.args.served values room is _ c.in_err-slot.ensures;
 })
 
@@ -26,7 +26,7 @@ returns-then-closes_cycle c =
     record {
       sound = c.remove.ensures.sound;
       reads = λ values room is val.
-          read_closes t j x served values room is k may _ (search_tells t c.requires.0 j k may.0.0 may.0.1 x from false sources values room c.closes_cycle.result c.closes_cycle.ensures ∙ c.if-closes_cycle.true)
+          read_closes t j x served values room is k may _ (search_tells t c.requires.sound j k may.0.0 may.0.1 x from false sources values room c.closes_cycle.result c.closes_cycle.ensures ∙ c.if-closes_cycle.true)
           (c.remove.ensures.removes values room);
     }
 
@@ -44,9 +44,9 @@ returns c =
     let marks = row c.draw.new.rows k in
     let joined = c.draw.ensures.1 in
     rw c.draw.ensures.0 (record {
-      sound = read_sound t c.requires.0 j k may.0.0 may.0.1 x from marks low joined sources c.with.result c.with.ensures;
+      sound = read_sound t c.requires.sound j k may.0.0 may.0.1 x from marks low joined sources c.with.result c.with.ensures;
       reads = λ values room is val.
-          read_granted t j x served values room is k may _ c.seen.result (search_tells t c.requires.0 j k may.0.0 may.0.1 x from false sources values room c.closes_cycle.result c.closes_cycle.ensures ∙ c.if-closes_cycle.false)
+          read_granted t j x served values room is k may _ c.seen.result (search_tells t c.requires.sound j k may.0.0 may.0.1 x from false sources values room c.closes_cycle.result c.closes_cycle.ensures ∙ c.if-closes_cycle.false)
           (c.seen.ensures ∙ ap (held_value (item t.items x).held) (val may.1))
-          (read_state t c.requires.0 j k may.0.0 may.0.1 x from marks low joined sources c.with.result c.with.ensures values room);
+          (read_state t c.requires.sound j k may.0.0 may.0.1 x from marks low joined sources c.with.result c.with.ensures values room);
     })

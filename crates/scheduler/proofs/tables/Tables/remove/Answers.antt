@@ -3,6 +3,6 @@ use Rattle.scheduler.proofs.tables.Tables.remove.Goals as goal
 
 pub returns : goal.returns
 returns c = rw c.vacate.ensures (record {
-  sound = removed_sound c.args.self.now c.requires.0 c.args.job c.args.slot _ c.requires.1 c.requires.2 _ _ c.clear_edges.ensures c.clear_items.ensures;
-  removes = λ values room. removed_state c.args.self.now c.requires.0 c.args.job c.args.slot _ c.requires.1 c.requires.2 _ _ c.clear_edges.ensures c.clear_items.ensures values room;
+  sound = removed_sound c.args.self.now c.requires.sound c.args.job c.args.slot _ c.requires.is c.requires.low _ _ c.clear_edges.ensures c.clear_items.ensures;
+  removes = λ values room. removed_state c.args.self.now c.requires.sound c.args.job c.args.slot _ c.requires.is c.requires.low _ _ c.clear_edges.ensures c.clear_items.ensures values room;
 })

@@ -8,7 +8,7 @@ use Rattle.scheduler.proofs.tables.Tables.write.Goals as goal
 
 pub returns-in_err-slot : goal.returns-in_err-slot
 returns-in_err-slot c = let p = err_from_is_err_and c.from_residual.result c.from_residual.ensures.1 in rw (p.1, p.2) (record {
-  sound = c.requires.0;
+  sound = c.requires.sound;
   writes = λ values room is. write_barred c.args.self.now c.args.job c.args.item c.args.served values room is c.args.value _ c.in_err-slot.ensures;
 })
 
@@ -25,7 +25,7 @@ returns-then-closes_cycle c =
     record {
       sound = c.remove.ensures.sound;
       writes = λ values room is.
-          write_closes t j x served values room is k may _ c.args.value (search_tells t c.requires.0 j k may.0.0 may.0.1 x from true sources values room c.closes_cycle.result c.closes_cycle.ensures ∙ c.if-closes_cycle.true)
+          write_closes t j x served values room is k may _ c.args.value (search_tells t c.requires.sound j k may.0.0 may.0.1 x from true sources values room c.closes_cycle.result c.closes_cycle.ensures ∙ c.if-closes_cycle.true)
           (c.remove.ensures.removes values room);
     }
 
@@ -43,8 +43,8 @@ returns c =
     let marks = row c.draw.new.rows k in
     let joined = c.draw.ensures.1 in
     rw c.draw.ensures.0 (record {
-      sound = write_sound t c.requires.0 j k may.0.0 may.0.1 x from marks low joined sources c.args.value c.with.result c.with.ensures;
+      sound = write_sound t c.requires.sound j k may.0.0 may.0.1 x from marks low joined sources c.args.value c.with.result c.with.ensures;
       writes = λ values room is.
-          write_granted t j x served values room is k may _ c.args.value (search_tells t c.requires.0 j k may.0.0 may.0.1 x from true sources values room c.closes_cycle.result c.closes_cycle.ensures ∙ c.if-closes_cycle.false)
-          (write_state t c.requires.0 j k may.0.0 may.0.1 x from marks low joined sources c.args.value c.with.result c.with.ensures values room);
+          write_granted t j x served values room is k may _ c.args.value (search_tells t c.requires.sound j k may.0.0 may.0.1 x from true sources values room c.closes_cycle.result c.closes_cycle.ensures ∙ c.if-closes_cycle.false)
+          (write_state t c.requires.sound j k may.0.0 may.0.1 x from marks low joined sources c.args.value c.with.result c.with.ensures values room);
     })
