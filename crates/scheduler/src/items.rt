@@ -1,11 +1,20 @@
 // One item, as the steps and the end of a job see it and change it.
 ghost use Rattle.std.specs.Prelude.{◌≡◌, None, MatchResult};
 ghost use Rattle.history.specs.Machine.{holds, held_value, held_by_another};
-ghost use Rattle.scheduler.specs.Marks.{ItemWithout, ItemLetGo};
+ghost use Rattle.scheduler.specs.Accesses.{ItemNoted, writes};
+ghost use Rattle.scheduler.specs.Marks.{Sources, ItemWithout, ItemLetGo};
 
 use super::tables::ItemState;
-use graph::nodes::without;
+use graph::nodes::{union, with, without};
+use history::holding::Holding;
 use history::refusal::Refusal;
+
+// What a step does with its item: it reads it, or writes this value to it.
+#[derive(Clone, Copy)]
+pub enum Access {
+    Read,
+    Write(u32),
+}
 
 impl ItemState {
     // Whether the job holds the item.
@@ -32,6 +41,30 @@ impl ItemState {
         ensures { result ≡ held_value self.now.held stored }
     {
         self.held.map_or(stored, |holding| holding.value)
+    }
+
+    // The slots from which a step by the job of this slot draws edges: those of the other writers, and
+    // for a write those of the other readers too.
+    pub(crate) fn sources(&self, access: Access, slot: usize) -> u64
+        ensures { Sources self.now (writes access) slot result }
+    {
+        match access {
+            Access::Read => without(self.writers, slot),
+            Access::Write(_) => without(union(self.writers, self.readers), slot),
+        }
+    }
+
+    // Notes a step by the job of this slot, which holds the item from a write on.
+    pub(crate) fn note(&mut self, access: Access, job: u32, slot: usize)
+        ensures { ItemNoted access job slot self.old self.new }
+    {
+        match access {
+            Access::Read => self.readers = with(self.readers, slot),
+            Access::Write(value) => {
+                self.held = Some(Holding { job, value });
+                self.writers = with(self.writers, slot);
+            }
+        }
     }
 
     // Ends the job's holding, if it holds the item.

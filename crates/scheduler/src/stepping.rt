@@ -1,28 +1,15 @@
 // Reading and writing an item.
-ghost use Rattle.std.specs.Prelude.{◌≡◌, ℕ, ◌<◌, ◌≤◌, min, true, false, List, length, MatchResult, slice_index};
-ghost use Rattle.history.specs.Machine.{Reads, Writes, held_by_another, holds, held_value};
-ghost use Rattle.scheduler.specs.Marks.{Sources, Draws, TellsPath, TellsCycle};
+ghost use Rattle.std.specs.Prelude.{◌≡◌, ℕ, ◌<◌, ◌≤◌, min, List, length, MatchResult, OnOk, slice_index};
+ghost use Rattle.history.specs.Machine.{Reads, Writes};
+ghost use Rattle.scheduler.specs.Accesses.{asked, Leads};
+ghost use Rattle.scheduler.specs.Marks.{Draws, TellsCycle};
 ghost use Rattle.scheduler.specs.Reading.{state, Sound, Admitted, Barred};
 
-use super::tables::{ItemState, Tables};
-use graph::nodes::{union, with, without};
+use super::items::Access;
+use super::tables::Tables;
+use graph::nodes::union;
 use graph::path::find_path;
-use history::holding::Holding;
 use history::refusal::Refusal;
-
-// The slots from which a read by the job of this slot draws edges.
-fn read_sources(item: &ItemState, slot: usize) -> u64
-    ensures { Sources item.now false slot result }
-{
-    without(item.writers, slot)
-}
-
-// The slots from which a write by the job of this slot draws edges.
-fn write_sources(item: &ItemState, slot: usize) -> u64
-    ensures { Sources item.now true slot result }
-{
-    without(union(item.writers, item.readers), slot)
-}
 
 // Draws edges from these slots to this one.
 fn draw(rows: &mut [u64; 32], slot: usize, from: u64)
@@ -44,6 +31,7 @@ fn closes_cycle(rows: &[u64; 32], slot: usize, from: u64) -> bool
 
 impl Tables {
     // The slot of a job that may step on the item as far as the edges allow it.
+    // Beside a refusal a slot is a u32: a usize there makes the answer wider, and a granted read slower.
     fn admit(&self, served: usize, job: u32, item: u32) -> Result<u32, Refusal>
         requires sound { Sound self.now }
         requires within { served ≤ 64 }
@@ -55,6 +43,27 @@ impl Tables {
         }
         self.items[item as usize].admit(job)?;
         Ok(slot)
+    }
+
+    // Lets the job step on an item of which so many are served, and notes the step. Where the step would
+    // close a cycle the job is aborted.
+    fn step(&mut self, served: usize, job: u32, item: u32, access: Access) -> Result<(), Refusal>
+        requires sound { Sound self.old }
+        requires within { served ≤ 64 }
+        ensures sound { Sound self.new }
+        ensures inside { OnOk result (item < served) }
+        ensures leads { (values : List ℕ) (room : ℕ) → served ≡ min 64 (length values) → Leads (state self.old values room) (asked job item access) result (state self.new values room) }
+    {
+        let slot = self.admit(served, job, item)? as usize;
+        let at = item as usize;
+        let from = self.items[at].sources(access, slot);
+        if closes_cycle(&self.jobs.edges, slot, from) {
+            self.remove(job, slot);
+            return Err(Refusal::ClosesCycle);
+        }
+        draw(&mut self.jobs.edges, slot, from);
+        self.items[at].note(access, job, slot);
+        Ok(())
     }
 
     // Reads an item that the store holds this value of, and of whose items so many are served.
@@ -70,20 +79,8 @@ impl Tables {
         ensures sound { Sound self.new }
         ensures reads { (values : List ℕ) (room : ℕ) → served ≡ min 64 (length values) → (item < served → stored ≡ slice_index values item) → Reads (state self.old values room) job item result (state self.new values room) }
     {
-        let slot = self.admit(served, job, item)? as usize;
-        let at = item as usize;
-        let state = self.items[at];
-        let from = read_sources(&state, slot);
-        if closes_cycle(&self.jobs.edges, slot, from) {
-            self.remove(job, slot);
-            return Err(Refusal::ClosesCycle);
-        }
-        draw(&mut self.jobs.edges, slot, from);
-        self.items[at] = ItemState {
-            readers: with(state.readers, slot),
-            ..state
-        };
-        Ok(state.seen(stored))
+        self.step(served, job, item, Access::Read)?;
+        Ok(self.items[item as usize].seen(stored))
     }
 
     // Writes an item, of which so many are served: the job holds it from now on.
@@ -99,20 +96,6 @@ impl Tables {
         ensures sound { Sound self.new }
         ensures writes { (values : List ℕ) (room : ℕ) → served ≡ min 64 (length values) → Writes (state self.old values room) job item value result (state self.new values room) }
     {
-        let slot = self.admit(served, job, item)? as usize;
-        let at = item as usize;
-        let state = self.items[at];
-        let from = write_sources(&state, slot);
-        if closes_cycle(&self.jobs.edges, slot, from) {
-            self.remove(job, slot);
-            return Err(Refusal::ClosesCycle);
-        }
-        draw(&mut self.jobs.edges, slot, from);
-        self.items[at] = ItemState {
-            held: Some(Holding { job, value }),
-            writers: with(state.writers, slot),
-            ..state
-        };
-        Ok(())
+        self.step(served, job, item, Access::Write(value))
     }
 }
