@@ -1,5 +1,5 @@
 // The scheduler: the tables with their invariant.
-ghost use Rattle.scheduler.specs.Reading.{Sized, OneSlot, GivenOut, EdgesTaken, ReadersTaken, WritersTaken};
+ghost use Rattle.scheduler.specs.Reading.{Sound, Sound-prop};
 
 use super::tables::Tables;
 
@@ -10,10 +10,5 @@ mod calls;
 #[derive(Drop)]
 pub struct Core {
     tables: Tables,
-    ghost sized: { Sized tables },
-    ghost one_slot: { OneSlot tables },
-    ghost given_out: { GivenOut tables },
-    ghost edges_taken: { EdgesTaken tables },
-    ghost readers_taken: { ReadersTaken tables },
-    ghost writers_taken: { WritersTaken tables },
+    ghost sound: { Sound tables } by { Sound-prop tables },
 }
