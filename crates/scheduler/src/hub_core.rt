@@ -3,12 +3,11 @@ ghost use Rattle.scheduler.specs.Reading.{Sound, Sound-prop};
 
 use super::tables::Tables;
 
-mod calls;
-
 // Everything of a hub but its store: which jobs are present, who holds, reads and writes each item, the
-// edges between the jobs and the next number.
+// edges between the jobs and the next number. The contract of each call holds over every store, whatever
+// its values and its room are.
 #[derive(Drop)]
 pub struct Core {
-    tables: Tables,
+    pub(crate) tables: Tables,
     ghost sound: { Sound tables } by { Sound-prop tables },
 }

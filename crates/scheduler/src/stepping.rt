@@ -1,12 +1,13 @@
 // Reading and writing an item.
-ghost use Rattle.std.specs.Prelude.{◌≡◌, ℕ, ◌<◌, ◌≤◌, min, List, length, MatchResult, OnOk, slice_index};
+ghost use Rattle.std.specs.Prelude.{◌≡◌, ℕ, ◌<◌, min, List, length, MatchResult, OnOk, slice_index};
 ghost use Rattle.history.specs.Machine.{Reads, Writes};
 ghost use Rattle.scheduler.specs.Accesses.{asked, Leads};
+ghost use Rattle.scheduler.specs.Cores.{machine};
 ghost use Rattle.scheduler.specs.Marks.{Draws, TellsCycle};
-ghost use Rattle.scheduler.specs.Reading.{state, Sound, Admitted, Barred};
+ghost use Rattle.scheduler.specs.Reading.{Admitted, Barred};
 
+use super::hub_core::Core;
 use super::items::Access;
-use super::tables::Tables;
 use graph::nodes::union;
 use graph::path::find_path;
 use history::refusal::Refusal;
@@ -29,73 +30,52 @@ fn closes_cycle(rows: &[u64; 32], slot: usize, from: u64) -> bool
     find_path(&drawn, slot, slot).is_some()
 }
 
-impl Tables {
-    // The slot of a job that may step on the item as far as the edges allow it.
+impl Core {
+    // The slot of a job that may step on the item of so many, as far as the edges allow it.
     // Beside a refusal a slot is a u32: a usize there makes the answer wider, and a granted read slower.
-    fn admit(&self, served: usize, job: u32, item: u32) -> Result<u32, Refusal>
-        requires sound { Sound self.now }
-        requires within { served ≤ 64 }
-        ensures { MatchResult result (Admitted self.now served job item) (Barred self.now served job item) }
+    fn admit(&self, items: usize, job: u32, item: u32) -> Result<u32, Refusal>
+        ensures { MatchResult result (Admitted self.now.tables (min 64 items) job item) (Barred self.now.tables (min 64 items) job item) }
     {
         let slot = self.running(job)?;
-        if item as usize >= served {
+        if item as usize >= items.min(64) {
             return Err(Refusal::ItemNotServed);
         }
-        self.items[item as usize].admit(job)?;
+        self.tables.items[item as usize].admit(job)?;
         Ok(slot)
     }
 
-    // Lets the job step on an item of which so many are served, and notes the step. Where the step would
+    // Lets the job step on an item of a store that has so many, and notes the step. Where the step would
     // close a cycle the job is aborted.
-    fn step(&mut self, served: usize, job: u32, item: u32, access: Access) -> Result<(), Refusal>
-        requires sound { Sound self.old }
-        requires within { served ≤ 64 }
-        ensures sound { Sound self.new }
-        ensures inside { OnOk result (item < served) }
-        ensures leads { (values : List ℕ) (room : ℕ) → served ≡ min 64 (length values) → Leads (state self.old values room) (asked job item access) result (state self.new values room) }
+    fn step(&mut self, items: usize, job: u32, item: u32, access: Access) -> Result<(), Refusal>
+        ensures inside { OnOk result (item < min 64 items) }
+        ensures leads { (values : List ℕ) (room : ℕ) → items ≡ length values → Leads (machine self.old values room) (asked job item access) result (machine self.new values room) }
     {
-        let slot = self.admit(served, job, item)? as usize;
+        let slot = self.admit(items, job, item)? as usize;
         let at = item as usize;
-        let from = self.items[at].sources(access, slot);
-        if closes_cycle(&self.jobs.edges, slot, from) {
+        let state = self.tables.items[at];
+        let from = state.sources(access, slot);
+        if closes_cycle(&self.tables.jobs.edges, slot, from) {
             self.remove(job, slot);
             return Err(Refusal::ClosesCycle);
         }
-        draw(&mut self.jobs.edges, slot, from);
-        self.items[at].note(access, job, slot);
+        draw(&mut self.tables.jobs.edges, slot, from);
+        self.tables.items[at].note(access, job, slot);
         Ok(())
     }
 
-    // Reads an item that the store holds this value of, and of whose items so many are served.
-    pub(crate) fn read(
-        &mut self,
-        served: usize,
-        job: u32,
-        item: u32,
-        stored: u32,
-    ) -> Result<u32, Refusal>
-        requires sound { Sound self.old }
-        requires within { served ≤ 64 }
-        ensures sound { Sound self.new }
-        ensures reads { (values : List ℕ) (room : ℕ) → served ≡ min 64 (length values) → (item < served → stored ≡ slice_index values item) → Reads (state self.old values room) job item result (state self.new values room) }
+    // Reads an item of a store that has so many items and this value in it.
+    pub fn read(&mut self, items: usize, job: u32, item: u32, stored: u32) -> Result<u32, Refusal>
+        ensures { (values : List ℕ) (room : ℕ) → items ≡ length values → (item < items → stored ≡ slice_index values item) → Reads (machine self.old values room) job item result (machine self.new values room) }
     {
-        self.step(served, job, item, Access::Read)?;
-        Ok(self.items[item as usize].seen(stored))
+        self.step(items, job, item, Access::Read)?;
+        let state = self.tables.items[item as usize];
+        Ok(state.seen(stored))
     }
 
-    // Writes an item, of which so many are served: the job holds it from now on.
-    pub(crate) fn write(
-        &mut self,
-        served: usize,
-        job: u32,
-        item: u32,
-        value: u32,
-    ) -> Result<(), Refusal>
-        requires sound { Sound self.old }
-        requires within { served ≤ 64 }
-        ensures sound { Sound self.new }
-        ensures writes { (values : List ℕ) (room : ℕ) → served ≡ min 64 (length values) → Writes (state self.old values room) job item value result (state self.new values room) }
+    // Writes an item of a store that has so many items: the job holds it from now on.
+    pub fn write(&mut self, items: usize, job: u32, item: u32, value: u32) -> Result<(), Refusal>
+        ensures { (values : List ℕ) (room : ℕ) → items ≡ length values → Writes (machine self.old values room) job item value result (machine self.new values room) }
     {
-        self.step(served, job, item, Access::Write(value))
+        self.step(items, job, item, Access::Write(value))
     }
 }
