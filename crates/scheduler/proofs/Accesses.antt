@@ -3,7 +3,10 @@ use Rattle.std.proofs.Common.{◌≡◌, ℕ, ◌<◌, Bool, true, false, ◌&&�
 use Rattle.std.proofs.lemmas.Bool.{cases_eq, eqb-true, and_parts, or_cases, lt-ltb}
 use Rattle.std.proofs.lemmas.List.{get_or-set_same, get_or-set_other, length-set}
 use Rattle.graph.specs.Nodes.{has}
-use Rattle.history.specs.Machine.{State, has_read, has_written, put_at, with_one}
+use Rattle.history.specs.Machine.{has_read, has_written, granted_state, put_at, with_one}
+use Rattle.scheduler.specs.Accesses.{writes, asked, SetWith, ItemNoted}
+use Rattle.scheduler.specs.declared.items.Access.{Access}
+use Rattle.scheduler.specs.declared.items.Access.TheVariants.{Read, Write}
 use Rattle.scheduler.specs.declared.tables.ItemState.{ItemState}
 use Rattle.scheduler.specs.declared.tables.Tables.{Tables}
 use Rattle.scheduler.specs.Slots.{slot_of}
@@ -20,10 +23,6 @@ stepped t k marks x it = record {
   items = set t.items x it;
   next = t.next;
 }
-
--- a set with slot k added
-abbrev Added : ℕ → ℕ → ℕ → Type 0
-Added set k set' = (a : ℕ) → has set' a ≡ (has set a || (ltb k 64 && eqb a k))
 
 or_swap : (a b : Bool) → (a || b) ≡ (b || a)
 or_swap true true = refl
@@ -78,62 +77,53 @@ module _ (t : Tables) (sound : Sound t) (j k : ℕ) (is : k ≡ slot_of j t.jobs
       stepped_edges values room a b = drawn_row (slot_of a t.jobs.slots) (slot_of b t.jobs.slots) ∙ drawn_slots t sound j k is within x from writes sources values room a b
 
   -- a set with slot k added has job j and the jobs that it had
-  added_job : (set set' : ℕ) → Added set k set' → (i : ℕ) → has set' (slot_of i t.jobs.slots) ≡ with_one j (λ n. has set (slot_of n t.jobs.slots)) i
+  added_job : (set set' : ℕ) → SetWith k set set' → (i : ℕ) → has set' (slot_of i t.jobs.slots) ≡ with_one j (λ n. has set (slot_of n t.jobs.slots)) i
   added_job set set' added i =
       added (slot_of i t.jobs.slots)
       ∙ ap (λ c. has set (slot_of i t.jobs.slots) || (c && eqb (slot_of i t.jobs.slots) k)) (lt-ltb k 64 (omega arith))
       ∙ ap (λ c. has set (slot_of i t.jobs.slots) || c) (tell t sound j k is within i)
       ∙ or_swap (has set (slot_of i t.jobs.slots)) (eqb i j)
 
-  added_taken : (set set' : ℕ) → Added set k set' → ((a : ℕ) → has set a ≡ true → Taken t.jobs.slots a) → (a : ℕ) → has set' a ≡ true → Taken t.jobs.slots a
+  added_taken : (set set' : ℕ) → SetWith k set set' → ((a : ℕ) → has set a ≡ true → Taken t.jobs.slots a) → (a : ℕ) → has set' a ≡ true → Taken t.jobs.slots a
   added_taken set set' added old a e = elim (or_cases (has set a) _ (sym (added a) ∙ e)) [
     | inl h ↦ old a h
     | inr h ↦ subst (Taken t.jobs.slots) (sym (eqb-true a k (and_parts (ltb k 64) (eqb a k) h).1)) (belongs_taken j _ (mine t sound j k is within))
   ]
 
-  module _ (x from marks : ℕ) (low : x < 64) (joined : (a : ℕ) → has marks a ≡ (has (row t.jobs.edges k) a || has from a)) where
-    -- the item as a read leaves it, with these readers
-    abbrev pub read_item : ℕ → ItemState
-    read_item readers = record { held = (item t.items x).held; readers = readers; writers = (item t.items x).writers }
+  module _ (x from marks : ℕ) (low : x < 64) (joined : (a : ℕ) → has marks a ≡ (has (row t.jobs.edges k) a || has from a)) (it : ItemState) where
+    pub noted_sound : (a : Access) → Sources (item t.items x) (writes a) k from → ItemNoted a j k (item t.items x) it → Sound (stepped t k marks x it)
+    noted_sound Read sources (held, readers, writers) =
+        stepped_sound x from marks false sources low joined it
+        (added_taken (item t.items x).readers it.readers readers (sound.2.1 x))
+        (λ a e. sound.2.2 x a (sym (ap (λ w. has w a) writers) ∙ e))
+    noted_sound (Write v) sources (held, readers, writers) =
+        stepped_sound x from marks true sources low joined it
+        (λ a e. sound.2.1 x a (sym (ap (λ w. has w a) readers) ∙ e))
+        (added_taken (item t.items x).writers it.writers writers (sound.2.2 x))
 
-    module _ (sources : Sources (item t.items x) false k from) (readers : ℕ) (added : Added (item t.items x).readers k readers) where
-      pub read_sound : Sound (stepped t k marks x (read_item readers))
-      read_sound = stepped_sound x from marks false sources low joined (read_item readers) (added_taken (item t.items x).readers readers added (sound.2.1 x)) (sound.2.2 x)
-
-      pub read_state : (values : List ℕ) (room : ℕ) → state (stepped t k marks x (read_item readers)) values room ≡ has_read j x (state t values room)
-      unfolding state has_read
-      read_state values room = same_state _ _ (record {
-        slots = refl;
-        next = refl;
-        status = λ i. refl;
-        held = λ y. kept_items x from marks false sources low joined (read_item readers) (λ i. i.held) refl y;
-        readers = λ y i.
-            ap (λ (f : ℕ → Bool). f i) (at_items x from marks false sources low joined (read_item readers) (λ i n. has i.readers (slot_of n t.jobs.slots)) (with_one j (λ n. has (item t.items x).readers (slot_of n t.jobs.slots))) (λ p n. added_job (item t.items x).readers readers added n p) y);
-        writers = λ y i. kept_items x from marks false sources low joined (read_item readers) (λ it. has it.writers (slot_of i t.jobs.slots)) refl y;
-        edges = stepped_edges x from marks false sources low joined (read_item readers) values room;
-        values = refl;
-        room = refl;
-      })
-
-    -- the item as a write of this value leaves it, with these writers
-    abbrev pub written_item : ℕ → ℕ → ItemState
-    written_item value writers = record { held = Some (record { job = j; value = value }); readers = (item t.items x).readers; writers = writers }
-
-    module _ (sources : Sources (item t.items x) true k from) (value writers : ℕ) (added : Added (item t.items x).writers k writers) where
-      pub write_sound : Sound (stepped t k marks x (written_item value writers))
-      write_sound = stepped_sound x from marks true sources low joined (written_item value writers) (sound.2.1 x) (added_taken (item t.items x).writers writers added (sound.2.2 x))
-
-      pub write_state : (values : List ℕ) (room : ℕ) → state (stepped t k marks x (written_item value writers)) values room ≡ has_written j x value (state t values room)
-      unfolding state has_written
-      write_state values room = same_state _ _ (record {
-        slots = refl;
-        next = refl;
-        status = λ i. refl;
-        held = λ y. at_items x from marks true sources low joined (written_item value writers) (λ i. i.held) (Some (record { job = j; value = value })) refl y;
-        readers = λ y i. kept_items x from marks true sources low joined (written_item value writers) (λ it. has it.readers (slot_of i t.jobs.slots)) refl y;
-        writers = λ y i.
-            ap (λ (f : ℕ → Bool). f i) (at_items x from marks true sources low joined (written_item value writers) (λ i n. has i.writers (slot_of n t.jobs.slots)) (with_one j (λ n. has (item t.items x).writers (slot_of n t.jobs.slots))) (λ p n. added_job (item t.items x).writers writers added n p) y);
-        edges = stepped_edges x from marks true sources low joined (written_item value writers) values room;
-        values = refl;
-        room = refl;
-      })
+    pub noted_state : (a : Access) → Sources (item t.items x) (writes a) k from → ItemNoted a j k (item t.items x) it → (values : List ℕ) (room left : ℕ) → state (stepped t k marks x it) values room ≡ granted_state (state t values room) (asked j x a) left
+    unfolding state has_read has_written granted_state
+    noted_state Read sources (held, readers, writers) values room left = same_state _ _ (record {
+      slots = refl;
+      next = refl;
+      status = λ i. refl;
+      held = λ y. kept_items x from marks false sources low joined it (λ i. i.held) held y;
+      readers = λ y i.
+          ap (λ (f : ℕ → Bool). f i) (at_items x from marks false sources low joined it (λ i n. has i.readers (slot_of n t.jobs.slots)) (with_one j (λ n. has (item t.items x).readers (slot_of n t.jobs.slots))) (λ p n. added_job (item t.items x).readers it.readers readers n p) y);
+      writers = λ y i. kept_items x from marks false sources low joined it (λ it. has it.writers (slot_of i t.jobs.slots)) (ap (λ w. has w (slot_of i t.jobs.slots)) writers) y;
+      edges = stepped_edges x from marks false sources low joined it values room;
+      values = refl;
+      room = refl;
+    })
+    noted_state (Write v) sources (held, readers, writers) values room left = same_state _ _ (record {
+      slots = refl;
+      next = refl;
+      status = λ i. refl;
+      held = λ y. at_items x from marks true sources low joined it (λ i. i.held) (Some (record { job = j; value = v })) held y;
+      readers = λ y i. kept_items x from marks true sources low joined it (λ it. has it.readers (slot_of i t.jobs.slots)) (ap (λ w. has w (slot_of i t.jobs.slots)) readers) y;
+      writers = λ y i.
+          ap (λ (f : ℕ → Bool). f i) (at_items x from marks true sources low joined it (λ i n. has i.writers (slot_of n t.jobs.slots)) (with_one j (λ n. has (item t.items x).writers (slot_of n t.jobs.slots))) (λ p n. added_job (item t.items x).writers it.writers writers n p) y);
+      edges = stepped_edges x from marks true sources low joined it values room;
+      values = refl;
+      room = refl;
+    })

@@ -1,7 +1,9 @@
 -- Commit: how many items the job holds, and what the tables stand for afterwards. Assumes nothing.
-use Rattle.std.proofs.Common.{◌≡◌, ℕ, zero, suc, ◌+◌, Bool, true, false, cond, ◌&&◌, eqb, List, [], ◌∷◌, ◌++◌, length, set, sym, refl, ap, ◌∙◌, inl, inr, add-zero, add-one, arith}
+use Rattle.std.proofs.Common.{◌≡◌, ℕ, zero, suc, ◌+◌, ◌≤◌, Bool, true, false, cond, ◌&&◌, eqb, List, [], ◌∷◌, ◌++◌, length, take, set, sym, refl, ap, ◌∙◌, subst, inl, inr, add-zero, add-one, arith}
 use Rattle.std.proofs.lemmas.Bool.{cases_Bool, cases_eq, eq-eqb, ne_eqb, both_ways}
 use Rattle.std.proofs.lemmas.List.{get_or-set_same, get_or-set_other, length-set, length-append}
+use Rattle.std.proofs.lemmas.List.Sums.{count_by_more_yes, count_by_more_no}
+use Rattle.std.specs.List.{count_by}
 use Rattle.graph.specs.Nodes.{has}
 use Rattle.history.specs.Machine.{Status, committed, those, rising, holds, holdings, has_ended, put_all, put_at}
 use Rattle.scheduler.specs.declared.slots.Slot.{Slot}
@@ -9,7 +11,7 @@ use Rattle.scheduler.specs.declared.slots.SlotStatus.TheVariants.{Committed}
 use Rattle.scheduler.specs.declared.tables.ItemState.{ItemState}
 use Rattle.scheduler.specs.declared.tables.Tables.{Tables}
 use Rattle.scheduler.specs.Slots.{status_of, taken, belongs, free_slot, slot, slot_of}
-use Rattle.scheduler.specs.Reading.{item, row, state, Taken, Sound, RunsAt, held_below}
+use Rattle.scheduler.specs.Reading.{idle, item, row, state, Taken, Sound, RunsAt, held_below}
 use Rattle.scheduler.specs.Marks.{ItemsLetGo}
 use Rattle.scheduler.proofs.Draws.{tell}
 use Rattle.scheduler.proofs.JobSlots.{first_same}
@@ -50,13 +52,20 @@ module _ (p : ℕ → Bool) (n : ℕ) where
       nothing [] = refl
       nothing (x ∷ l) = ap (λ m. x ∷ m) (nothing l)
 
-pub count_next_in : (t : Tables) (j n count : ℕ) → count ≡ length (held_below t j n) → holds j (item t.items n).held ≡ true → count + 1 ≡ length (held_below t j (n + 1))
-count_next_in t j n count e h =
-    let f = ap length (those_next_in (λ x. holds j (item t.items x).held) n h) ∙ length-append (held_below t j n) (n ∷ []) in
-    omega arith
-
-pub count_next_out : (t : Tables) (j n count : ℕ) → count ≡ length (held_below t j n) → holds j (item t.items n).held ≡ false → count ≡ length (held_below t j (n + 1))
-count_next_out t j n count e h = e ∙ sym (ap length (those_next_out (λ x. holds j (item t.items x).held) n h))
+-- the items that a job holds, counted
+pub count_held : (t : Tables) (j n : ℕ) → n ≤ length t.items → count_by (λ (it : ItemState). holds j it.held) (take n t.items) ≡ length (held_below t j n)
+unfolding those rising
+count_held t j zero h = refl
+count_held t j (suc n) h =
+    let rest = count_held t j n (omega arith) in
+    let test = λ (it : ItemState). holds j it.held in
+    subst (λ m. count_by (λ (it : ItemState). holds j it.held) (take m t.items) ≡ length (held_below t j m)) (add-one n)
+    (elim (cases_Bool (holds j (item t.items n).held)) [
+      | inl e ↦
+          (let next = ap length (those_next_in (λ x. holds j (item t.items x).held) n e) ∙ length-append (held_below t j n) (n ∷ []) in
+          count_by_more_yes test t.items n idle (omega arith) e ∙ omega arith)
+      | inr e ↦ count_by_more_no test t.items n idle (omega arith) e ∙ rest ∙ sym (ap length (those_next_out (λ x. holds j (item t.items x).held) n e))
+    ])
 
 -- the tables with slot k committed, and these items
 abbrev pub closed : Tables → ℕ → ℕ → List ItemState → Tables

@@ -6,22 +6,11 @@ use Rattle.scheduler.specs.declared.hub_core.Core.{Core}
 use Rattle.scheduler.specs.declared.tables.ItemState.{ItemState}
 use Rattle.scheduler.specs.declared.tables.Tables.{Tables}
 use Rattle.scheduler.specs.Cores.{value_of, held_by}
-use Rattle.scheduler.specs.Reading.{idle, state, Sound, held_below}
-
-pub kept_sound : (core : Core) → Sound core.tables
-kept_sound core = (
-  core.sized,
-  ((λ a b j e f. core.one_slot (record { a = a; b = b; job = j; first = e; second = f })), (λ a j e. core.given_out (record { a = a; job = j; is = e }))),
-  (
-    (λ a b e. core.edges_taken (record { a = a; n = b; is = e })),
-    (λ x a e. core.readers_taken (record { a = a; n = x; is = e })),
-    (λ x a e. core.writers_taken (record { a = a; n = x; is = e })),
-  ),
-)
+use Rattle.scheduler.specs.Reading.{idle, state, held_below}
 
 -- past the table no item is held
 pub none_held : (core : Core) (j x : ℕ) → 64 ≤ x → None ≡ held_by core j x
-none_held core j x h = sym (ap (λ (i : ItemState). value_of j i.held) (get_or_past core.tables.items x idle (omega (arith, core.sized.2))))
+none_held core j x h = sym (ap (λ (i : ItemState). value_of j i.held) (get_or_past core.tables.items x idle (omega (arith, core.sound.0.2))))
 
 -- the items that a job holds, of a store with so many
 pub held_holdings : (t : Tables) (j n count : ℕ) (values : List ℕ) (room : ℕ) → n ≡ length values → count ≡ length (held_below t j (min n 64)) → count ≡ length (holdings (state t values room) j)

@@ -1,5 +1,5 @@
 -- Calls for a job that does not run, and an abort of one that does. Assumes nothing.
-use Rattle.std.proofs.Common.{◌≡◌, ℕ, ◌≤◌, List, Some, None, sym, refl, ap, ◌∙◌, arith}
+use Rattle.std.proofs.Common.{◌≡◌, ℕ, List, length, Some, None, sym, refl, ap, ◌∙◌, arith}
 use Rattle.history.specs.declared.refusal.Refusal.{Refusal}
 use Rattle.history.specs.declared.refusal.Refusal.TheVariants.{NotPresent}
 use Rattle.history.specs.Machine.{not_running, abort, refusal, granted_answer, granted_state, refused_state, put_count, done, refused, removed, Steps}
@@ -10,8 +10,8 @@ use Rattle.scheduler.specs.Reading.{state, Sound, RunsAt, Stopped}
 use Rattle.scheduler.proofs.Sounds.{slot_past}
 use Rattle.scheduler.proofs.States.{steps_refused, steps_granted}
 
-pub missing_stopped : (t : Tables) → Sound t → (j : ℕ) → 32 ≤ slot_of j t.jobs.slots → Stopped t j NotPresent
-missing_stopped t sound j h = ap (λ (s : Slot). not_running (status_of s.status)) (slot_past t.jobs.slots (slot_of j t.jobs.slots) (omega (arith, sound.0.0)))
+pub missing_stopped : (t : Tables) → Sound t → (j : ℕ) → slot_of j t.jobs.slots ≡ length t.jobs.slots → Stopped t j NotPresent
+missing_stopped t sound j h = ap (λ (s : Slot). not_running (status_of s.status)) (slot_past t.jobs.slots (slot_of j t.jobs.slots) (omega arith))
 
 module _ (t : Tables) (j : ℕ) (values : List ℕ) (room : ℕ) where
   pub stopped_status : (r : Refusal) → Stopped t j r → not_running ((state t values room).status j) ≡ Some r

@@ -1,7 +1,8 @@
 -- The slot of a job: how it is found, and what it is where slots change. Assumes nothing.
-use Rattle.std.proofs.Common.{◌≡◌, ℕ, zero, suc, ◌+◌, ◌<◌, ◌≤◌, Bool, true, false, cond, List, [], ◌∷◌, length, get_or, drop, sym, refl, ap, ◌∙◌, subst, ⊎_elim, arith}
-use Rattle.std.proofs.lemmas.Bool.{cases_Bool}
-use Rattle.std.proofs.lemmas.List.{drop_more, drop_all}
+use Rattle.std.proofs.Common.{◌≡◌, ℕ, zero, suc, ◌+◌, ◌<◌, ◌≤◌, Bool, true, false, cond, not, List, [], ◌∷◌, length, Some, None, Option, sym, refl, ap, ◌∙◌, subst, inl, inr, ⊎_elim, arith}
+use Rattle.std.proofs.lemmas.Bool.{cases_Bool, cases_lt, lt-ltb, le-ltb}
+use Rattle.std.specs.List.{position, position_or_len}
+use Rattle.std.specs.Option.{MatchOption}
 use Rattle.scheduler.specs.declared.slots.Slot.{Slot}
 use Rattle.scheduler.specs.Slots.{slot, first}
 
@@ -12,28 +13,32 @@ module _ (p : Slot → Bool) where
   first_later : (s : Slot) (ss : List Slot) → p s ≡ false → first p (s ∷ ss) ≡ suc (first p ss)
   first_later s ss e = ap (λ b. cond b 0 (suc (first p ss))) e
 
-  -- the search for the first slot that passes, come to slot k
+  -- what `position` answers
 
-  pub find_more : (ss : List Slot) (k : ℕ) (d : Slot) → k < length ss → first p ss ≡ k + first p (drop k ss) → p (get_or ss k d) ≡ false → first p ss ≡ k + 1 + first p (drop (k + 1) ss)
-  find_more ss k d h inv other =
-      let e = ap (first p) (drop_more ss k d h) ∙ first_later (get_or ss k d) (drop (k + 1) ss) other in
-      omega arith
-
-  pub find_here : (ss : List Slot) (k : ℕ) (d : Slot) → k < length ss → first p ss ≡ k + first p (drop k ss) → p (get_or ss k d) ≡ true → k ≡ first p ss
-  find_here ss k d h inv same =
-      let e = ap (first p) (drop_more ss k d h) ∙ first_here (get_or ss k d) (drop (k + 1) ss) same in
-      omega arith
-
-  pub find_none : (ss : List Slot) (k : ℕ) → length ss ≤ k → first p ss ≡ k + first p (drop k ss) → k ≡ first p ss
-  find_none ss k h inv = let e : first p (drop k ss) ≡ 0 = ap (first p) (drop_all k ss h) in omega arith
-
-  -- what was found
+  first_is : (ss : List Slot) → position_or_len p ss ≡ first p ss
+  first_is [] = refl
+  first_is (s ∷ ss) = elim (p s) as (λ b. cond (not b) (1 + position_or_len p ss) 0 ≡ cond b 0 (suc (first p ss))) [ true ↦ refl | false ↦ (let rest = first_is ss in omega arith) ]
 
   pub first_within : (ss : List Slot) → first p ss ≤ length ss
   first_within [] = omega arith
   first_within (s ∷ ss) =
       let rest = first_within ss in
       ⊎_elim (λ e. let f = first_here s ss e in omega arith) (λ e. let f = first_later s ss e in omega arith) (cases_Bool (p s))
+
+  found : (ss : List Slot) → MatchOption (position p ss) (first p ss ≡ length ss) (λ k. (k ≡ first p ss) × (k < length ss))
+  found ss =
+      let same = first_is ss in
+      let within = first_within ss in
+      let Tells : Bool → Type 0 = λ b. MatchOption (cond b (Some (position_or_len p ss)) None) (first p ss ≡ length ss) (λ k. (k ≡ first p ss) × (k < length ss)) in
+      elim (cases_lt (position_or_len p ss) (length ss)) [ inl l ↦ subst Tells (sym (lt-ltb _ _ l)) (same, l) | inr l ↦ subst Tells (sym (le-ltb _ _ l)) (omega arith) ]
+
+  pub found_at : (ss : List Slot) (o : Option ℕ) (k : ℕ) → o ≡ position p ss → o ≡ Some k → (k ≡ first p ss) × (k < length ss)
+  found_at ss o k e f = subst (λ r. MatchOption r (first p ss ≡ length ss) (λ k. (k ≡ first p ss) × (k < length ss))) (sym e ∙ f) (found ss)
+
+  pub found_none : (ss : List Slot) (o : Option ℕ) → o ≡ position p ss → o ≡ None → first p ss ≡ length ss
+  found_none ss o e f = subst (λ r. MatchOption r (first p ss ≡ length ss) (λ k. (k ≡ first p ss) × (k < length ss))) (sym e ∙ f) (found ss)
+
+  -- what was found
 
   -- the slot that was found passes
   pub first_passes : (ss : List Slot) → first p ss < length ss → p (slot ss (first p ss)) ≡ true

@@ -11,7 +11,6 @@ pub mod Permits
 pub mod Removes
 pub mod RetireRuns
 pub mod Retires
-pub mod SlotSets
 pub mod Sounds
 pub mod States
 pub mod Swept

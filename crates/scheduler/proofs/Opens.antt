@@ -1,18 +1,17 @@
 -- A job that gets the first free slot and the next number. Assumes nothing.
-use Rattle.std.proofs.Common.{◌≡◌, ℕ, ◌+◌, ◌<◌, ◌≤◌, Bool, true, false, ltb, leb, ◌⊎◌, List, length, set, Some, sym, refl, ap, ◌∙◌, subst, inl, inr, add-one, arith}
-use Rattle.std.proofs.lemmas.Bool.{cases_eq, cases_lt, eqb-true, eq-eqb, ne_eqb, both_ways, not-true, le-ltb, lt-leb, le-leb}
+use Rattle.std.proofs.Common.{◌≡◌, ℕ, ◌+◌, ◌<◌, ◌≤◌, Bool, true, false, ltb, leb, ◌⊎◌, List, length, set, sym, refl, ap, ◌∙◌, subst, inl, inr, add-one, arith}
+use Rattle.std.proofs.lemmas.Bool.{cases_eq, cases_lt, eqb-true, eq-eqb, ne_eqb, both_ways, not-true, le-ltb, lt-ltb}
 use Rattle.std.proofs.lemmas.List.{get_or-set_same, get_or-set_other, length-set}
 use Rattle.graph.specs.Nodes.{has}
-use Rattle.history.specs.declared.refusal.Refusal.{Refusal}
 use Rattle.history.specs.declared.refusal.Refusal.TheVariants.{TableFull, NumbersSpent}
 use Rattle.history.specs.Machine.{Status, running, begin, jobs, those, rising, present, opened, put_at, refusal, granted_answer, granted_state, refused_state, put_count, answered, refused, Steps, ◌else◌, refuse_if}
 use Rattle.scheduler.specs.declared.slots.Slot.{Slot}
 use Rattle.scheduler.specs.declared.slots.SlotStatus.TheVariants.{Running}
 use Rattle.scheduler.specs.declared.tables.Tables.{Tables}
 use Rattle.scheduler.specs.Slots.{status_of, taken, belongs, free_slot, slot, first, slot_of, is_free}
-use Rattle.scheduler.specs.Reading.{item, row, state, Taken, Sound, MayOpen}
+use Rattle.scheduler.specs.Reading.{item, row, state, Taken, Sound}
 use Rattle.scheduler.proofs.Counting.{table_full, table_has_room}
-use Rattle.scheduler.proofs.JobSlots.{first_within, first_passes, first_only, first_same}
+use Rattle.scheduler.proofs.JobSlots.{first_passes, first_only, first_same}
 use Rattle.scheduler.proofs.Sounds.{belongs_taken, free_belongs, free_no_edge, free_no_row, free_no_reader, free_no_writer, slot_missing}
 use Rattle.scheduler.proofs.States.{same_state, put_same, put_other, steps_refused, steps_granted}
 
@@ -153,24 +152,20 @@ module _ (t : Tables) (sound : Sound t) (k : ℕ) (is : k ≡ first is_free t.jo
       (ap (λ b. refuse_if b TableFull else refuse_if (ltb 4294967295 t.next) NumbersSpent) (not_full values room) ∙ ap (λ b. refuse_if b NumbersSpent) (le-ltb 4294967295 t.next small))
       refl (opened_state values room) (λ _. refl) (omega arith)
 
-module _ (t : Tables) (sound : Sound t) (k : ℕ) (is : k ≡ first is_free t.jobs.slots) (values : List ℕ) (room : ℕ) where
-  -- all slots are taken
-  full : 32 ≤ k → leb 32 (length (jobs (state t values room))) ≡ true
-  unfolding state jobs
-  full none =
-      let whole = table_full t.next t.jobs.slots sound.1 (let w = first_within is_free t.jobs.slots in omega (arith, sound.0.0)) in
-      subst (λ n. leb n (length (those (λ j. present (status_of (slot t.jobs.slots (slot_of j t.jobs.slots)).status)) (rising 0 t.next))) ≡ true) sound.0.0 whole
-
-  -- the table is full exactly when the first free slot is past its end
-  full_tells : leb 32 (length (jobs (state t values room))) ≡ leb 32 k
-  full_tells = elim (cases_lt k 32) [
-    | inl low ↦ not_full t sound k is low values room ∙ sym (lt-leb 32 k low)
-    | inr high ↦ full high ∙ sym (le-leb 32 k high)
-  ]
-
-  pub open_refused : (r : Refusal) → MayOpen k t.next (Some r) → Steps (state t values room) begin (refused r) (state t values room)
+  -- no number is left
+  pub open_spent : (values : List ℕ) (room : ℕ) → 4294967295 < t.next → Steps (state t values room) begin (refused NumbersSpent) (state t values room)
   unfolding refusal refused_state state
-  open_refused r e =
-      steps_refused (state t values room) begin (state t values room) r
-      (ap (λ b. refuse_if b TableFull else refuse_if (ltb 4294967295 t.next) NumbersSpent) full_tells ∙ e)
+  open_spent values room spent =
+      steps_refused (state t values room) begin (state t values room) NumbersSpent
+      (ap (λ b. refuse_if b TableFull else refuse_if (ltb 4294967295 t.next) NumbersSpent) (not_full values room) ∙ ap (λ b. refuse_if b NumbersSpent) (lt-ltb 4294967295 t.next spent))
       refl refl
+
+-- all slots are taken
+pub open_full : (t : Tables) → Sound t → first is_free t.jobs.slots ≡ length t.jobs.slots → (values : List ℕ) (room : ℕ) → Steps (state t values room) begin (refused TableFull) (state t values room)
+unfolding refusal refused_state state jobs
+open_full t sound none values room =
+    let whole = table_full t.next t.jobs.slots sound.1 none in
+    let full = subst (λ n. leb n (length (those (λ j. present (status_of (slot t.jobs.slots (slot_of j t.jobs.slots)).status)) (rising 0 t.next))) ≡ true) sound.0.0 whole in
+    steps_refused (state t values room) begin (state t values room) TableFull
+    (ap (λ b. refuse_if b TableFull else refuse_if (ltb 4294967295 t.next) NumbersSpent) full)
+    refl refl

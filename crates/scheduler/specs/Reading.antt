@@ -1,9 +1,10 @@
 -- The tables of the scheduler, which go by slot, read as the state of the machine, which goes by job
 -- number. Rests on Slots and on the machine.
-use Rattle.std.specs.Prelude.{◌≡◌, ℕ, ◌+◌, ◌<◌, ◌≤◌, true, List, [], ◌∷◌, length, Some, None, Ok, Err, Option, Result, nat_le, nat_lt, slice_index, slice_index_or, slice_set}
+use Rattle.std.specs.Coded.{Coded-set, coded_ℕ, coded_bool, le_prop}
+use Rattle.std.specs.Prelude.{◌≡◌, ℕ, ◌+◌, ◌<◌, ◌≤◌, Bool, true, List, [], ◌∷◌, length, Some, None, Ok, Err, Option, Result, nat_le, slice_index, slice_index_or, slice_set}
 use Rattle.graph.specs.Nodes.{has}
 use Rattle.history.specs.declared.refusal.Refusal.{Refusal}
-use Rattle.history.specs.declared.refusal.Refusal.TheVariants.{TableFull, NumbersSpent, ItemNotServed}
+use Rattle.history.specs.declared.refusal.Refusal.TheVariants.{ItemNotServed}
 use Rattle.history.specs.Machine.{State, not_running, refuse_if, held_by_another, ◌else◌, retirable, those, rising, holds, holdings, has_ended, put_all}
 use Rattle.scheduler.specs.declared.tables.ItemState.{ItemState}
 use Rattle.scheduler.specs.declared.tables.Tables.{Tables}
@@ -64,48 +65,23 @@ Marked t =
 abbrev pub Sound : Tables → Type 0
 Sound t = Sized t × Numbered t × Marked t
 
--- The same facts as the scheduler's type holds them, where each may have only few premises.
+-- it can hold in one way at most, so that a type can keep it
+pub Sound-prop : (t : Tables) → IsProp (Sound t)
+Sound-prop t p q = λ i. (
+  (same p.0.0 q.0.0 i, same p.0.1 q.0.1 i, same p.0.2 q.0.2 i, le_prop p.0.3 q.0.3 i),
+  ((λ a b j e f. same (p.1.0 a b j e f) (q.1.0 a b j e f) i), (λ a j e. le_prop (p.1.1 a j e) (q.1.1 a j e) i)),
+  (
+    (λ a b e. (is (p.2.0 a b e).0 (q.2.0 a b e).0 i, is (p.2.0 a b e).1 (q.2.0 a b e).1 i)),
+    (λ x a e. is (p.2.1 x a e) (q.2.1 x a e) i),
+    (λ x a e. is (p.2.2 x a e) (q.2.2 x a e) i),
+  ),
+)
+  where
+    same : {m n : ℕ} → IsProp (m ≡ n)
+    same {m} {n} = Coded-set coded_ℕ m n
 
--- two slots of one job
-pub record Shared (slots : List Slot) : Type 0 where
-  pub a : ℕ
-  pub b : ℕ
-  pub job : ℕ
-  pub first : belongs job (slot slots a) ≡ true
-  pub second : belongs job (slot slots b) ≡ true
-
--- a slot of a job
-pub record Owned (slots : List Slot) : Type 0 where
-  pub a : ℕ
-  pub job : ℕ
-  pub is : belongs job (slot slots a) ≡ true
-
--- a mark of slot a in set n of some sets
-pub record Mark (sets : ℕ → ℕ) : Type 0 where
-  pub a : ℕ
-  pub n : ℕ
-  pub is : has (sets n) a ≡ true
-
-abbrev pub OneSlot : Tables → Type 0
-OneSlot t = (p : Shared t.jobs.slots) → p.a ≡ p.b
-
-abbrev pub GivenOut : Tables → Type 0
-GivenOut t = (p : Owned t.jobs.slots) → p.job < t.next
-
-abbrev pub EdgesTaken : Tables → Type 0
-EdgesTaken t = (p : Mark (row t.jobs.edges)) → Taken t.jobs.slots p.a × Taken t.jobs.slots p.n
-
-abbrev pub ReadersTaken : Tables → Type 0
-ReadersTaken t = (p : Mark (λ x. (item t.items x).readers)) → Taken t.jobs.slots p.a
-
-abbrev pub WritersTaken : Tables → Type 0
-WritersTaken t = (p : Mark (λ x. (item t.items x).writers)) → Taken t.jobs.slots p.a
-
--- a job can be opened where this is the first free slot and this the next number, or is refused so
-abbrev pub MayOpen : ℕ → ℕ → Option Refusal → Type 0
-MayOpen free next None = (free < 32) × (next ≤ 4294967295)
-MayOpen free next (Some r) =
-    (refuse_if (nat_le 32 free) TableFull else refuse_if (nat_lt 4294967295 next) NumbersSpent) ≡ Some r
+    is : {b c : Bool} → IsProp (b ≡ c)
+    is {b} {c} = Coded-set coded_bool b c
 
 -- what an open does to the tables, by its answer: granted, the first free slot is that of the job, which
 -- runs, and the next number is one larger; nothing else changes, and nothing at all where it is refused

@@ -1,36 +1,23 @@
-// Ending a job.
+// What a job holds, and ending a job.
 ghost use Rattle.std.specs.Prelude.{◌≡◌, ℕ, ◌<◌, ◌≤◌, List, length, MatchResult};
-ghost use Rattle.history.specs.Machine.{Aborts, removed, holds, holdings, put_all, has_ended};
-ghost use Rattle.scheduler.specs.Reading.{state, Sound, RunsAt, Stopped, Ended, Counted, held_below};
+ghost use Rattle.history.specs.Machine.{Aborts, removed, holdings, put_all, has_ended};
+ghost use Rattle.scheduler.specs.Cores.{machine, Ends, held_by};
+ghost use Rattle.scheduler.specs.Reading.{RunsAt, Stopped, Counted, held_below};
 ghost use Rattle.scheduler.specs.Slots.{slot_of};
 
-use super::slots::{SlotStatus, close, find, vacate};
+use super::hub_core::Core;
+use super::slots::{SlotStatus, find};
 use super::sweeps::{clear_edges, clear_items, release_items};
-use super::tables::Tables;
-use history::holding::Holding;
 use history::refusal::Refusal;
 
-// Whether the job holds an item that is held so.
-pub(crate) fn is_held_by(held: Option<Holding>, job: u32) -> bool
-    ensures { result ≡ holds job held }
-{
-    match held {
-        Some(holding) => holding.job == job,
-        None => false,
-    }
-}
-
-impl Tables {
+impl Core {
     // The slot of a job that runs.
+    // Beside a refusal a slot is a u32: a usize there makes the answer wider, and a granted read slower.
     pub(crate) fn running(&self, job: u32) -> Result<u32, Refusal>
-        requires { Sound self.now }
-        ensures { MatchResult result (RunsAt self.now job) (Stopped self.now job) }
+        ensures { MatchResult result (RunsAt self.now.tables job) (Stopped self.now.tables job) }
     {
-        let slot = find(&self.jobs.slots, job);
-        if slot >= 32 {
-            return Err(Refusal::NotPresent);
-        }
-        match self.jobs.slots[slot].status {
+        let slot = find(&self.tables.jobs.slots, job).ok_or(Refusal::NotPresent)?;
+        match self.tables.jobs.slots[slot].status {
             SlotStatus::Free => Err(Refusal::NotPresent),
             SlotStatus::Running => Ok(slot as u32),
             SlotStatus::Committed => Err(Refusal::AlreadyCommitted),
@@ -39,20 +26,18 @@ impl Tables {
 
     // Takes the job, whose slot this is, out of all tables.
     pub(crate) fn remove(&mut self, job: u32, slot: usize)
-        requires { Sound self.old × (slot ≡ slot_of job self.old.jobs.slots) × (slot < 32) }
-        ensures sound { Sound self.new }
-        ensures removes { (values : List ℕ) (room : ℕ) → state self.new values room ≡ removed job (state self.old values room) }
+        requires is { slot ≡ slot_of job self.old.tables.jobs.slots }
+        requires low { slot < 32 }
+        ensures { (values : List ℕ) (room : ℕ) → machine self.new values room ≡ removed job (machine self.old values room) }
     {
-        vacate(&mut self.jobs.slots[slot]);
-        clear_edges(&mut self.jobs.edges, slot);
-        clear_items(&mut self.items, job, slot);
+        self.tables.jobs.slots[slot].vacate();
+        clear_edges(&mut self.tables.jobs.edges, slot);
+        clear_items(&mut self.tables.items, job, slot);
     }
 
-    // Aborts a job that runs.
-    pub(crate) fn abort(&mut self, job: u32) -> Result<(), Refusal>
-        requires { Sound self.old }
-        ensures sound { Sound self.new }
-        ensures aborts { (values : List ℕ) (room : ℕ) → Aborts (state self.old values room) job result (state self.new values room) }
+    // Aborts a job.
+    pub fn abort(&mut self, job: u32) -> Result<(), Refusal>
+        ensures { (values : List ℕ) (room : ℕ) → Aborts (machine self.old values room) job result (machine self.new values room) }
     {
         let slot = self.running(job)? as usize;
         self.remove(job, slot);
@@ -60,9 +45,8 @@ impl Tables {
     }
 
     // How many items a running job holds, of a store that has so many.
-    pub(crate) fn count_held(&self, items: usize, job: u32) -> Result<usize, Refusal>
-        requires { Sound self.now }
-        ensures { (values : List ℕ) (room : ℕ) → items ≡ length values → Counted self.now job values room result }
+    pub fn count_held(&self, items: usize, job: u32) -> Result<usize, Refusal>
+        ensures { (values : List ℕ) (room : ℕ) → items ≡ length values → Counted self.now.tables job values room result }
     {
         self.running(job)?;
         Ok(self.count_below(job, items.min(64)))
@@ -70,33 +54,39 @@ impl Tables {
 
     // How many of the first items the job holds.
     fn count_below(&self, job: u32, items: usize) -> usize
-        requires { (length self.now.items ≡ 64) × (items ≤ 64) }
-        ensures { result ≡ length (held_below self.now job items) }
+        requires { items ≤ 64 }
+        ensures { result ≡ length (held_below self.now.tables job items) }
     {
-        let mut count = 0;
-        for x in 0..items {
-            if is_held_by(self.items[x].held, job) {
-                count += 1;
-            }
-        }
-        count
+        self.tables.items[..items]
+            .iter()
+            .filter(|item| item.is_held_by(job))
+            .count()
+    }
+
+    // The value that the job holds at the item, if it holds one there.
+    pub fn held_by(&self, job: u32, item: usize) -> Option<u32>
+        ensures { result ≡ held_by self.now job item }
+    {
+        self.tables
+            .items
+            .get(item)
+            .and_then(|item| item.held)
+            .filter(|holding| holding.job == job)
+            .map(|holding| holding.value)
     }
 
     // Notes that the job, which runs in this slot, has committed.
     fn note_commit(&mut self, job: u32, slot: usize)
-        requires { Sound self.old × RunsAt self.old job slot }
-        ensures sound { Sound self.new }
-        ensures ends { (values : List ℕ) (room left : ℕ) → state self.new (put_all (state self.old values room).held (holdings (state self.old values room) job) values) left ≡ has_ended job left (state self.old values room) }
+        requires { RunsAt self.old.tables job slot }
+        ensures { (values : List ℕ) (room left : ℕ) → machine self.new (put_all (machine self.old values room).held (holdings (machine self.old values room) job) values) left ≡ has_ended job left (machine self.old values room) }
     {
-        close(&mut self.jobs.slots[slot]);
-        release_items(&mut self.items, job);
+        self.tables.jobs.slots[slot].close();
+        release_items(&mut self.tables.items, job);
     }
 
-    // Ends a job that runs: it has committed.
-    pub(crate) fn end(&mut self, job: u32) -> Result<(), Refusal>
-        requires { Sound self.old }
-        ensures sound { Sound self.new }
-        ensures ends { Ended self.old job result self.new }
+    // Notes that a running job has committed: what it held is in the store now.
+    pub fn end(&mut self, job: u32) -> Result<(), Refusal>
+        ensures { Ends self.old job result self.new }
     {
         let slot = self.running(job)? as usize;
         self.note_commit(job, slot);

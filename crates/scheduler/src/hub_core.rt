@@ -1,19 +1,13 @@
 // The scheduler: the tables with their invariant.
-ghost use Rattle.scheduler.specs.Reading.{Sized, OneSlot, GivenOut, EdgesTaken, ReadersTaken, WritersTaken};
+ghost use Rattle.scheduler.specs.Reading.{Sound, Sound-prop};
 
 use super::tables::Tables;
 
-mod calls;
-
 // Everything of a hub but its store: which jobs are present, who holds, reads and writes each item, the
-// edges between the jobs and the next number.
+// edges between the jobs and the next number. The contract of each call holds over every store, whatever
+// its values and its room are.
 #[derive(Drop)]
 pub struct Core {
-    tables: Tables,
-    ghost sized: { Sized tables },
-    ghost one_slot: { OneSlot tables },
-    ghost given_out: { GivenOut tables },
-    ghost edges_taken: { EdgesTaken tables },
-    ghost readers_taken: { ReadersTaken tables },
-    ghost writers_taken: { WritersTaken tables },
+    pub(crate) tables: Tables,
+    ghost sound: { Sound tables } by { Sound-prop tables },
 }

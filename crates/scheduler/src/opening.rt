@@ -1,42 +1,40 @@
-// Opening a job.
-ghost use Rattle.std.specs.Prelude.{ℕ, List};
-ghost use Rattle.history.specs.Machine.{Opens};
-ghost use Rattle.scheduler.specs.Reading.{state, Sound, MayOpen, TakesSlot};
+// A scheduler, and opening a job.
+ghost use Rattle.std.specs.Prelude.{◌≡◌, ℕ, List};
+ghost use Rattle.history.specs.Machine.{made, Opens};
+ghost use Rattle.scheduler.specs.Cores.{machine};
+ghost use Rattle.scheduler.specs.Reading.{TakesSlot};
 
-use super::slots::{find_free, settle};
-use super::tables::Tables;
+use super::hub_core::Core;
+use super::slots::find_free;
+use super::tables::{FREE, IDLE, JobTable, Tables};
 use history::refusal::Refusal;
 
-// Why no job is opened, if none is, where this is the first free slot and this the next number.
-fn open_refusal(free: usize, next: u64) -> Option<Refusal>
-    ensures { MayOpen free next result }
-{
-    if free >= 32 {
-        Some(Refusal::TableFull)
-    } else if next > 4294967295 {
-        Some(Refusal::NumbersSpent)
-    } else {
-        None
-    }
-}
-
-impl Tables {
-    // Gives the first free slot and the next number to a job.
-    pub(crate) fn open(&mut self) -> Result<u32, Refusal>
-        requires { Sound self.old }
-        ensures sound { Sound self.new }
-        ensures opens { (values : List ℕ) (room : ℕ) → Opens (state self.old values room) result (state self.new values room) }
-        ensures slot { TakesSlot self.old result self.new }
+impl Core {
+    // A scheduler with no job present, which gives this number to the first one.
+    pub fn new(first: u32) -> Core
+        ensures { (values : List ℕ) (room : ℕ) → machine result values room ≡ made 32 first values room }
     {
-        let free = find_free(&self.jobs.slots);
-        match open_refusal(free, self.next) {
-            Some(refusal) => Err(refusal),
-            None => {
-                let job = self.next as u32;
-                settle(&mut self.jobs.slots[free], job);
-                self.next += 1;
-                Ok(job)
-            }
+        Core {
+            tables: Tables {
+                jobs: JobTable {
+                    slots: [FREE; 32],
+                    edges: [0; 32],
+                },
+                items: [IDLE; 64],
+                next: first as u64,
+            },
         }
+    }
+
+    // Opens a job in the first free slot and answers its number.
+    pub fn open(&mut self) -> Result<u32, Refusal>
+        ensures opens { (values : List ℕ) (room : ℕ) → Opens (machine self.old values room) result (machine self.new values room) }
+        ensures slot { TakesSlot self.old.tables result self.new.tables }
+    {
+        let free = find_free(&self.tables.jobs.slots).ok_or(Refusal::TableFull)?;
+        let job = u32::try_from(self.tables.next).map_err(|_| Refusal::NumbersSpent)?;
+        self.tables.jobs.slots[free].settle(job);
+        self.tables.next += 1;
+        Ok(job)
     }
 }

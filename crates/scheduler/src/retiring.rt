@@ -1,47 +1,39 @@
 // Retiring committed jobs.
 ghost use Rattle.std.specs.Prelude.{ℕ, List};
 ghost use Rattle.history.specs.Machine.{Retires};
-ghost use Rattle.scheduler.specs.Reading.{state, Sound, NextRetires};
+ghost use Rattle.scheduler.specs.Cores.{machine};
+ghost use Rattle.scheduler.specs.Reading.{NextRetires};
 
+use super::hub_core::Core;
 use super::slots::{SlotStatus, numbers, slots_with};
-use super::tables::Tables;
 use graph::nodes::union;
 use graph::order::next_free;
 
-impl Tables {
+impl Core {
     // The slot of the committed job with the smallest number of those that no edge leads into.
     fn next_to_retire(&self) -> Option<usize>
-        requires { Sound self.now }
-        ensures { NextRetires self.now result }
+        ensures { NextRetires self.now.tables result }
     {
-        let committed = slots_with(&self.jobs.slots, SlotStatus::Committed);
-        let running = slots_with(&self.jobs.slots, SlotStatus::Running);
-        let keys = numbers(&self.jobs.slots);
-        next_free(
-            &self.jobs.edges,
-            &keys,
-            union(running, committed),
-            committed,
-        )
+        let jobs = &self.tables.jobs;
+        let committed = slots_with(&jobs.slots, SlotStatus::Committed);
+        let running = slots_with(&jobs.slots, SlotStatus::Running);
+        let keys = numbers(&jobs.slots);
+        next_free(&jobs.edges, &keys, union(running, committed), committed)
     }
 
-    // Takes out one job after another that may retire, and writes their numbers into the list, until it
-    // is full or no job is left that may.
-    pub(crate) fn retire(&mut self, list: &mut [u32]) -> usize
-        requires { Sound self.old }
-        ensures sound { Sound self.new }
-        ensures retires { (values : List ℕ) (room : ℕ) → Retires (state self.old values room) list.old result (state self.new values room) list.new }
+    // Retires one job after another that may, writes their numbers into the list, until it is full or no
+    // job is left that may, and answers how many.
+    pub fn retire(&mut self, list: &mut [u32]) -> usize
+        ensures { (values : List ℕ) (room : ℕ) → Retires (machine self.old values room) list.old result (machine self.new values room) list.new }
     {
-        let mut count = 0;
-        while count < list.len() {
+        for (count, place) in list.iter_mut().enumerate() {
             let Some(slot) = self.next_to_retire() else {
                 return count;
             };
-            let job = self.jobs.slots[slot].job;
+            let job = self.tables.jobs.slots[slot].job;
             self.remove(job, slot);
-            list[count] = job;
-            count += 1;
+            *place = job;
         }
-        count
+        list.len()
     }
 }

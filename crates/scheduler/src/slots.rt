@@ -1,7 +1,7 @@
 // The slots of the job table, and how a job's is found.
-ghost use Rattle.std.specs.Prelude.{◌≡◌};
+ghost use Rattle.std.specs.Prelude.{◌≡◌, position};
 ghost use Rattle.scheduler.specs.declared.slots.SlotStatus.TheVariants.{Free, Running, Committed};
-ghost use Rattle.scheduler.specs.Slots.{slot_of, first, is_free as free, belongs as taken_by, same_status, SlotsWith, numbers as jobs};
+ghost use Rattle.scheduler.specs.Slots.{is_free as free, belongs as taken_by, SlotsWith, numbers as jobs};
 
 use graph::nodes::with;
 
@@ -20,113 +20,77 @@ pub struct Slot {
     pub status: SlotStatus,
 }
 
-// Whether the slot is taken by the job.
-pub(crate) fn belongs(slot: &Slot, job: u32) -> bool
-    ensures { result ≡ taken_by job slot.now }
-{
-    match slot.status {
-        SlotStatus::Free => false,
-        SlotStatus::Running => slot.job == job,
-        SlotStatus::Committed => slot.job == job,
+impl Slot {
+    // Whether no job has the slot.
+    pub(crate) fn is_free(&self) -> bool
+        ensures { result ≡ free self.now }
+    {
+        self.status == SlotStatus::Free
+    }
+
+    // Whether the slot is taken by the job.
+    pub(crate) fn belongs(&self, job: u32) -> bool
+        ensures { result ≡ taken_by job self.now }
+    {
+        !self.is_free() && self.job == job
+    }
+
+    // Gives the slot to a job.
+    pub(crate) fn settle(&mut self, job: u32)
+        ensures { self.new ≡ record { job = job; status = Running } }
+    {
+        *self = Slot {
+            job,
+            status: SlotStatus::Running,
+        };
+    }
+
+    // Takes the slot from its job.
+    pub(crate) fn vacate(&mut self)
+        ensures { self.new ≡ record { job = self.old.job; status = Free } }
+    {
+        self.status = SlotStatus::Free;
+    }
+
+    // Notes that the slot's job has committed.
+    pub(crate) fn close(&mut self)
+        ensures { self.new ≡ record { job = self.old.job; status = Committed } }
+    {
+        self.status = SlotStatus::Committed;
     }
 }
 
-// Whether no job has the slot.
-pub(crate) fn is_free(slot: &Slot) -> bool
-    ensures { result ≡ free slot.now }
+// The slot that belongs to the job, if one does.
+pub(crate) fn find(slots: &[Slot; 32], job: u32) -> Option<usize>
+    ensures { result ≡ position (taken_by job) slots.now }
 {
-    match slot.status {
-        SlotStatus::Free => true,
-        SlotStatus::Running => false,
-        SlotStatus::Committed => false,
-    }
+    slots.iter().position(|slot| slot.belongs(job))
 }
 
-// The slot that belongs to the job, or 32 if none does.
-pub(crate) fn find(slots: &[Slot; 32], job: u32) -> usize
-    ensures { result ≡ slot_of job slots.now }
+// The first free slot, if one is free.
+pub(crate) fn find_free(slots: &[Slot; 32]) -> Option<usize>
+    ensures { result ≡ position free slots.now }
 {
-    for k in 0..32 {
-        if belongs(&slots[k], job) {
-            return k;
-        }
-    }
-    32
-}
-
-// The first free slot, or 32 if all are taken.
-pub(crate) fn find_free(slots: &[Slot; 32]) -> usize
-    ensures { result ≡ first free slots.now }
-{
-    for k in 0..32 {
-        if is_free(&slots[k]) {
-            return k;
-        }
-    }
-    32
-}
-
-// Gives a slot to a job.
-pub(crate) fn settle(slot: &mut Slot, job: u32)
-    ensures { slot.new ≡ record { job = job; status = Running } }
-{
-    slot.job = job;
-    slot.status = SlotStatus::Running;
-}
-
-// Takes a slot from its job.
-pub(crate) fn vacate(slot: &mut Slot)
-    ensures { slot.new ≡ record { job = slot.old.job; status = Free } }
-{
-    slot.status = SlotStatus::Free;
-}
-
-// Notes that the slot's job has committed.
-pub(crate) fn close(slot: &mut Slot)
-    ensures { slot.new ≡ record { job = slot.old.job; status = Committed } }
-{
-    slot.status = SlotStatus::Committed;
-}
-
-// Whether the slot says this.
-pub(crate) fn says(slot: &Slot, status: SlotStatus) -> bool
-    ensures { result ≡ same_status slot.now.status status }
-{
-    match (slot.status, status) {
-        (SlotStatus::Free, SlotStatus::Free) => true,
-        (SlotStatus::Running, SlotStatus::Running) => true,
-        (SlotStatus::Committed, SlotStatus::Committed) => true,
-        _ => false,
-    }
+    slots.iter().position(|slot| slot.is_free())
 }
 
 // The set of the slots that say this.
+#[tactic(auto, using(graph::proofs::Words::bit_none))]
 pub(crate) fn slots_with(slots: &[Slot; 32], status: SlotStatus) -> u64
     ensures { SlotsWith status slots.now result }
 {
     let mut set = 0;
-    for k in 0..32 {
-        if says(&slots[k], status) {
+    for (k, slot) in slots.iter().enumerate() {
+        if slot.status == status {
             set = with(set, k);
         }
     }
     set
 }
 
-// The number in a slot.
-fn number_in(place: &Slot) -> u32
-    ensures { result ≡ place.now.job }
-{
-    place.job
-}
-
 // The numbers in the slots, free ones too.
 pub(crate) fn numbers(slots: &[Slot; 32]) -> [u32; 32]
     ensures { result ≡ jobs slots.now }
 {
-    let mut numbers = [0; 32];
-    for k in 0..32 {
-        numbers[k] = number_in(&slots[k]);
-    }
-    numbers
+    slots.map(|slot| slot.job)
 }

@@ -1,46 +1,16 @@
 // Reading and writing an item.
-ghost use Rattle.std.specs.Prelude.{◌≡◌, ℕ, ◌<◌, ◌≤◌, min, true, false, List, length, MatchResult, slice_index};
-ghost use Rattle.history.specs.Machine.{Reads, Writes, held_by_another, holds, held_value};
-ghost use Rattle.scheduler.specs.Marks.{Sources, Draws, TellsPath, TellsCycle};
-ghost use Rattle.scheduler.specs.Reading.{state, Sound, Admitted, Barred};
+ghost use Rattle.std.specs.Prelude.{◌≡◌, ℕ, ◌<◌, min, List, length, MatchResult, OnOk, slice_index};
+ghost use Rattle.history.specs.Machine.{Reads, Writes};
+ghost use Rattle.scheduler.specs.Accesses.{asked, Leads};
+ghost use Rattle.scheduler.specs.Cores.{machine};
+ghost use Rattle.scheduler.specs.Marks.{Draws, TellsCycle};
+ghost use Rattle.scheduler.specs.Reading.{Admitted, Barred};
 
-use super::tables::{ItemState, Tables};
-use graph::nodes::{union, with, without};
+use super::hub_core::Core;
+use super::items::Access;
+use graph::nodes::union;
 use graph::path::find_path;
-use history::holding::Holding;
 use history::refusal::Refusal;
-
-// Why a step of the job on an item that is held so is refused, if it is: another job holds it.
-fn holder_refusal(held: Option<Holding>, job: u32) -> Option<Refusal>
-    ensures { result ≡ held_by_another job held }
-{
-    match held {
-        Some(holding) => {
-            if holding.job == job {
-                None
-            } else {
-                Some(Refusal::ItemHeld {
-                    holder: holding.job,
-                })
-            }
-        }
-        None => None,
-    }
-}
-
-// The slots from which a read by the job of this slot draws edges.
-fn read_sources(item: &ItemState, slot: usize) -> u64
-    ensures { Sources item.now false slot result }
-{
-    without(item.writers, slot)
-}
-
-// The slots from which a write by the job of this slot draws edges.
-fn write_sources(item: &ItemState, slot: usize) -> u64
-    ensures { Sources item.now true slot result }
-{
-    without(union(item.writers, item.readers), slot)
-}
 
 // Draws edges from these slots to this one.
 fn draw(rows: &mut [u64; 32], slot: usize, from: u64)
@@ -50,16 +20,6 @@ fn draw(rows: &mut [u64; 32], slot: usize, from: u64)
     rows[slot] = union(rows[slot], from);
 }
 
-// Whether a path leads from the slot back to it.
-fn has_cycle(rows: &[u64; 32], slot: usize) -> bool
-    ensures { TellsPath rows.now slot result }
-{
-    match find_path(rows, slot, slot) {
-        Some(_) => true,
-        None => false,
-    }
-}
-
 // Whether edges from these slots to this one would close a cycle.
 fn closes_cycle(rows: &[u64; 32], slot: usize, from: u64) -> bool
     requires { slot < 32 }
@@ -67,89 +27,55 @@ fn closes_cycle(rows: &[u64; 32], slot: usize, from: u64) -> bool
 {
     let mut drawn = *rows;
     draw(&mut drawn, slot, from);
-    has_cycle(&drawn, slot)
+    find_path(&drawn, slot, slot).is_some()
 }
 
-// The value of an item as its holder sees it, and as everybody sees it if nobody holds it.
-fn seen(held: Option<Holding>, stored: u32) -> u32
-    ensures { result ≡ held_value held stored }
-{
-    match held {
-        Some(holding) => holding.value,
-        None => stored,
-    }
-}
-
-impl Tables {
-    // The slot of a job that may step on the item as far as the edges allow it.
-    fn admit(&self, served: usize, job: u32, item: u32) -> Result<u32, Refusal>
-        requires { Sound self.now × (served ≤ 64) }
-        ensures { MatchResult result (Admitted self.now served job item) (Barred self.now served job item) }
+impl Core {
+    // The slot of a job that may step on the item of so many, as far as the edges allow it.
+    // Beside a refusal a slot is a u32: a usize there makes the answer wider, and a granted read slower.
+    fn admit(&self, items: usize, job: u32, item: u32) -> Result<u32, Refusal>
+        ensures { MatchResult result (Admitted self.now.tables (min 64 items) job item) (Barred self.now.tables (min 64 items) job item) }
     {
         let slot = self.running(job)?;
-        if item as usize >= served {
+        if item as usize >= items.min(64) {
             return Err(Refusal::ItemNotServed);
         }
-        match holder_refusal(self.items[item as usize].held, job) {
-            Some(refusal) => Err(refusal),
-            None => Ok(slot),
-        }
+        self.tables.items[item as usize].admit(job)?;
+        Ok(slot)
     }
 
-    // Reads an item that the store holds this value of, and of whose items so many are served.
-    pub(crate) fn read(
-        &mut self,
-        served: usize,
-        job: u32,
-        item: u32,
-        stored: u32,
-    ) -> Result<u32, Refusal>
-        requires { Sound self.old × (served ≤ 64) }
-        ensures sound { Sound self.new }
-        ensures reads { (values : List ℕ) (room : ℕ) → served ≡ min 64 (length values) → (item < served → stored ≡ slice_index values item) → Reads (state self.old values room) job item result (state self.new values room) }
+    // Lets the job step on an item of a store that has so many, and notes the step. Where the step would
+    // close a cycle the job is aborted.
+    fn step(&mut self, items: usize, job: u32, item: u32, access: Access) -> Result<(), Refusal>
+        ensures inside { OnOk result (item < min 64 items) }
+        ensures leads { (values : List ℕ) (room : ℕ) → items ≡ length values → Leads (machine self.old values room) (asked job item access) result (machine self.new values room) }
     {
-        let slot = self.admit(served, job, item)? as usize;
+        let slot = self.admit(items, job, item)? as usize;
         let at = item as usize;
-        let state = self.items[at];
-        let from = read_sources(&state, slot);
-        if closes_cycle(&self.jobs.edges, slot, from) {
+        let state = self.tables.items[at];
+        let from = state.sources(access, slot);
+        if closes_cycle(&self.tables.jobs.edges, slot, from) {
             self.remove(job, slot);
             return Err(Refusal::ClosesCycle);
         }
-        draw(&mut self.jobs.edges, slot, from);
-        self.items[at] = ItemState {
-            readers: with(state.readers, slot),
-            ..state
-        };
-        Ok(seen(state.held, stored))
-    }
-
-    // Writes an item, of which so many are served: the job holds it from now on.
-    pub(crate) fn write(
-        &mut self,
-        served: usize,
-        job: u32,
-        item: u32,
-        value: u32,
-    ) -> Result<(), Refusal>
-        requires { Sound self.old × (served ≤ 64) }
-        ensures sound { Sound self.new }
-        ensures writes { (values : List ℕ) (room : ℕ) → served ≡ min 64 (length values) → Writes (state self.old values room) job item value result (state self.new values room) }
-    {
-        let slot = self.admit(served, job, item)? as usize;
-        let at = item as usize;
-        let state = self.items[at];
-        let from = write_sources(&state, slot);
-        if closes_cycle(&self.jobs.edges, slot, from) {
-            self.remove(job, slot);
-            return Err(Refusal::ClosesCycle);
-        }
-        draw(&mut self.jobs.edges, slot, from);
-        self.items[at] = ItemState {
-            held: Some(Holding { job, value }),
-            writers: with(state.writers, slot),
-            ..state
-        };
+        draw(&mut self.tables.jobs.edges, slot, from);
+        self.tables.items[at].note(access, job, slot);
         Ok(())
+    }
+
+    // Reads an item of a store that has so many items and this value in it.
+    pub fn read(&mut self, items: usize, job: u32, item: u32, stored: u32) -> Result<u32, Refusal>
+        ensures { (values : List ℕ) (room : ℕ) → items ≡ length values → (item < items → stored ≡ slice_index values item) → Reads (machine self.old values room) job item result (machine self.new values room) }
+    {
+        self.step(items, job, item, Access::Read)?;
+        let state = self.tables.items[item as usize];
+        Ok(state.seen(stored))
+    }
+
+    // Writes an item of a store that has so many items: the job holds it from now on.
+    pub fn write(&mut self, items: usize, job: u32, item: u32, value: u32) -> Result<(), Refusal>
+        ensures { (values : List ℕ) (room : ℕ) → items ≡ length values → Writes (machine self.old values room) job item value result (machine self.new values room) }
+    {
+        self.step(items, job, item, Access::Write(value))
     }
 }

@@ -1,7 +1,4 @@
 // The tables of the hub: plain values, with no invariant of their own.
-ghost use Rattle.std.specs.Prelude.{◌≡◌, ℕ, List};
-ghost use Rattle.history.specs.Machine.{made};
-ghost use Rattle.scheduler.specs.Reading.{state, Sound};
 
 use super::slots::{Slot, SlotStatus};
 use history::holding::Holding;
@@ -29,30 +26,15 @@ pub struct Tables {
     pub next: u64,
 }
 
-const FREE: Slot = Slot {
+// A slot that no job has taken.
+pub(crate) const FREE: Slot = Slot {
     job: 0,
     status: SlotStatus::Free,
 };
 
-const IDLE: ItemState = ItemState {
+// An item that no job has touched.
+pub(crate) const IDLE: ItemState = ItemState {
     held: None,
     readers: 0,
     writers: 0,
 };
-
-impl Tables {
-    // No job is present, and the first one gets this number.
-    pub(crate) fn new(first: u32) -> Tables
-        ensures sound { Sound result }
-        ensures makes { (values : List ℕ) (room : ℕ) → state result values room ≡ made 32 first values room }
-    {
-        Tables {
-            jobs: JobTable {
-                slots: [FREE; 32],
-                edges: [0; 32],
-            },
-            items: [IDLE; 64],
-            next: first as u64,
-        }
-    }
-}

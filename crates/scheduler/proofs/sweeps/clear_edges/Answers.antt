@@ -1,14 +1,11 @@
 use Rattle.std.proofs.Common.{arith}
 use Rattle.scheduler.specs.Marks.{RowWithout}
-use Rattle.scheduler.proofs.Swept.{swept_none, swept_more, swept_all}
 use Rattle.scheduler.proofs.Sounds.{row_without_none}
+use Rattle.scheduler.proofs.Swept.{swept_all}
 use Rattle.scheduler.proofs.sweeps.clear_edges.Goals as goal
 
-pub loop-to-init : goal.loop-to-init
-loop-to-init c = swept_none (RowWithout c.args.slot) 0 c.args.rows.now
-
-pub loop-to-preserved : goal.loop-to-preserved
-loop-to-preserved c = swept_more (RowWithout c.args.slot) 0 c.args.rows.now c.loop-to.to c.loop-to.rows c.clear_row.result c.loop-to.invariant (omega (arith, c.loop-to.invariant.long)) c.clear_row.ensures
-
 pub returns : goal.returns
-returns c = (c.loop-to.invariant.long, swept_all (RowWithout c.args.slot) 0 c.args.rows.now c.loop-to.to c.loop-to.rows c.loop-to.invariant (omega arith) (row_without_none c.args.slot))
+returns c = (
+  c.loop-to.invariant.long,
+  swept_all (RowWithout c.args.slot) 0 c.args.rows.now c.loop-to.to c.loop-to.rows c.loop-to.invariant (omega arith) (row_without_none c.args.slot),
+)

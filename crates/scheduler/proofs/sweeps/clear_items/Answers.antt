@@ -1,15 +1,12 @@
 use Rattle.std.proofs.Common.{arith}
-use Rattle.scheduler.specs.Reading.{idle}
 use Rattle.scheduler.specs.Marks.{ItemWithout}
-use Rattle.scheduler.proofs.Swept.{swept_none, swept_more, swept_all}
+use Rattle.scheduler.specs.Reading.{idle}
 use Rattle.scheduler.proofs.Sounds.{item_without_idle}
+use Rattle.scheduler.proofs.Swept.{swept_all}
 use Rattle.scheduler.proofs.sweeps.clear_items.Goals as goal
 
-pub loop-x-init : goal.loop-x-init
-loop-x-init c = swept_none (λ _. ItemWithout c.args.job c.args.slot) idle c.args.items.now
-
-pub loop-x-preserved : goal.loop-x-preserved
-loop-x-preserved c = swept_more (λ _. ItemWithout c.args.job c.args.slot) idle c.args.items.now c.loop-x.x c.loop-x.items c.clear_item.result c.loop-x.invariant (omega (arith, c.loop-x.invariant.long)) c.clear_item.ensures
-
 pub returns : goal.returns
-returns c = (c.loop-x.invariant.long, swept_all (λ _. ItemWithout c.args.job c.args.slot) idle c.args.items.now c.loop-x.x c.loop-x.items c.loop-x.invariant (omega arith) (item_without_idle c.args.job c.args.slot))
+returns c = (
+  c.loop-item.invariant.long,
+  swept_all (λ _. ItemWithout c.args.job c.args.slot) idle c.args.items.now c.loop-item.item-index c.loop-item.items c.loop-item.invariant (omega arith) (item_without_idle c.args.job c.args.slot),
+)

@@ -3,5 +3,5 @@ use Rattle.scheduler.specs.Marks.{ItemWithout}
 use Rattle.scheduler.proofs.Swept.{Swept}
 use Rattle.scheduler.proofs.sweeps.clear_items.Given as goal
 
-abbrev pub invariant-loop-x : goal.invariant-loop-x
-invariant-loop-x l = Swept (λ _. ItemWithout l.job l.slot) idle l.x l.initial.items l.items
+abbrev pub invariant-loop-item : goal.invariant-loop-item
+invariant-loop-item l = Swept (λ _. ItemWithout l.job l.slot) idle l.item-index l.initial.items l.items

@@ -3,5 +3,5 @@ use Rattle.scheduler.specs.Marks.{ItemLetGo}
 use Rattle.scheduler.proofs.Swept.{Swept}
 use Rattle.scheduler.proofs.sweeps.release_items.Given as goal
 
-abbrev pub invariant-loop-x : goal.invariant-loop-x
-invariant-loop-x l = Swept (λ _. ItemLetGo l.job) idle l.x l.initial.items l.items
+abbrev pub invariant-loop-item : goal.invariant-loop-item
+invariant-loop-item l = Swept (λ _. ItemLetGo l.job) idle l.item-index l.initial.items l.items

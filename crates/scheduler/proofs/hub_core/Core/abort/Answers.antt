@@ -1,5 +1,10 @@
-use Rattle.scheduler.proofs.Cored.{kept_sound}
+use Rattle.std.proofs.lemmas.Result.{err_from_is_err_and}
+use Rattle.scheduler.proofs.Ends.{abort_refused, abort_granted}
 use Rattle.scheduler.proofs.hub_core.Core.abort.Goals as goal
 
-pub abort-requires : goal.abort-requires
-abort-requires c = kept_sound c.args.self.now
+pub returns-in_err-slot : goal.returns-in_err-slot
+returns-in_err-slot c = let p = err_from_is_err_and c.from_residual.result c.from_residual.ensures.1 in rw (p.1, p.2)
+    (λ values room. abort_refused c.args.self.now.tables c.args.job values room _ c.in_err-slot.ensures)
+
+pub returns : goal.returns
+returns c values room = abort_granted c.args.self.now.tables c.args.job values room _ _ c.in_ok-slot.ensures (c.remove.ensures values room)

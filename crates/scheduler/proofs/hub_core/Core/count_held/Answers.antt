@@ -1,5 +1,16 @@
-use Rattle.scheduler.proofs.Cored.{kept_sound}
+use Rattle.std.proofs.Common.{length, ap, ◌∙◌}
+use Rattle.std.proofs.lemmas.Result.{err_from_is_err_and}
+use Rattle.scheduler.specs.Reading.{held_below}
+use Rattle.scheduler.proofs.Cored.{held_holdings}
+use Rattle.scheduler.proofs.Ends.{stopped_status, runs_status}
 use Rattle.scheduler.proofs.hub_core.Core.count_held.Goals as goal
 
-pub count_held-requires : goal.count_held-requires
-count_held-requires c = kept_sound c.args.self.now
+pub returns-in_err-running : goal.returns-in_err-running
+returns-in_err-running c = let p = err_from_is_err_and c.from_residual.result c.from_residual.ensures.1 in rw (p.1, p.2)
+    (λ values room _. stopped_status c.args.self.now.tables c.args.job values room _ c.in_err-running.ensures)
+
+pub returns : goal.returns
+returns c values room e = (
+  runs_status c.args.self.now.tables c.args.job values room _ c.in_ok-running.ensures,
+  held_holdings c.args.self.now.tables c.args.job c.args.items c.count_below.result values room e (c.count_below.ensures ∙ ap (λ n. length (held_below c.args.self.now.tables c.args.job n)) c.min.ensures),
+)

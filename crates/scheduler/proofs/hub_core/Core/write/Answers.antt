@@ -1,6 +1,6 @@
-use Rattle.std.proofs.Common.{arith}
-use Rattle.scheduler.proofs.Cored.{kept_sound}
+use Rattle.scheduler.proofs.Permits.{leads_writes}
 use Rattle.scheduler.proofs.hub_core.Core.write.Goals as goal
 
-pub write-requires : goal.write-requires
-write-requires c = (kept_sound c.args.self.now, omega (arith, c.min.ensures))
+pub returns : goal.returns
+returns c values room is =
+    leads_writes c.args.self.now.tables _ c.args.job c.args.item values room c.args.value c.step.result (c.step.ensures.leads values room is)
