@@ -1,22 +1,17 @@
 -- Lines added to a text one after another.
-use Rattle.std.proofs.Common.{◌≡◌, ℕ, ◌+◌, ◌<◌, ◌≤◌, List, ◌∷◌, ◌++◌, length, get_or, drop, sym, ap, ◌∙◌}
-use Rattle.std.proofs.lemmas.List.{append_assoc, append-nil, drop_more, drop_all}
+use Rattle.std.proofs.Common.{◌≡◌, ℕ, ◌+◌, ◌<◌, List, [], ◌∷◌, ◌++◌, length, get_or, take, sym, refl, ap, ◌∙◌}
+use Rattle.std.proofs.lemmas.List.{append_assoc, append-nil, take_more}
 use Rattle.console.specs.Sheets.{ended, lines_text}
 
 module _ {T : Type 0} (show : T → List ℕ) where
-  -- one more line
-  pub line_added : (text text' all : List ℕ) (lines : List T) (i : ℕ) (x : T) → i < length lines → x ≡ get_or lines i x
-      → text' ≡ text ++ ended (show x)
-      → text ++ lines_text show (drop i lines) ≡ all
-      → text' ++ lines_text show (drop (i + 1) lines) ≡ all
-  line_added text text' all lines i x h at e inv =
-      ap (λ (z : List ℕ). z ++ lines_text show (drop (i + 1) lines)) e
-      ∙ append_assoc text (ended (show x)) (lines_text show (drop (i + 1) lines))
-      ∙ ap (λ (z : T). text ++ lines_text show (z ∷ drop (i + 1) lines)) at
-      ∙ ap (λ (z : List T). text ++ lines_text show z) (sym (drop_more lines i x h))
-      ∙ inv
+  lines_append : (xs ys : List T) → lines_text show (xs ++ ys) ≡ lines_text show xs ++ lines_text show ys
+  lines_append [] ys = refl
+  lines_append (x ∷ xs) ys = ap (λ (z : List ℕ). ended (show x) ++ z) (lines_append xs ys) ∙ sym (append_assoc (ended (show x)) (lines_text show xs) (lines_text show ys))
 
-  pub all_added : (text all : List ℕ) (lines : List T) (i : ℕ) → length lines ≤ i
-      → text ++ lines_text show (drop i lines) ≡ all → text ≡ all
-  all_added text all lines i h inv =
-      sym (append-nil text) ∙ ap (λ (z : List T). text ++ lines_text show z) (sym (drop_all i lines h)) ∙ inv
+  -- one more line
+  pub line_added : (lines : List T) (i : ℕ) (x : T) → i < length lines → x ≡ get_or lines i x
+      → lines_text show (take i lines) ++ ended (show x) ≡ lines_text show (take (i + 1) lines)
+  line_added lines i x h at =
+      ap (λ (z : List ℕ). lines_text show (take i lines) ++ z) (sym (append-nil (ended (show x))) ∙ ap (λ (z : T). lines_text show (z ∷ [])) at)
+      ∙ sym (lines_append (take i lines) (get_or lines i x ∷ []))
+      ∙ ap (lines_text show) (sym (take_more lines i x h))

@@ -12,13 +12,6 @@ use trace_reader::reader::read_input;
 // For how many steps there is place.
 const MOST_STEPS: usize = 1024;
 
-// The trace of an input: its steps, or why it is refused.
-#[derive(Drop)]
-pub enum Trace {
-    Steps(Vec<Step>),
-    Refused(ReadRefusal),
-}
-
 // Reads an input to its end, but no more than this many bytes of it, so that an endless one is read too.
 pub fn read_front<R: Read + Drop>(heap: Global, input: R, most: usize) -> io::Result<Vec<u8>>
     ensures { IfOk result (λ bytes. vec_len bytes ≤ most) }
@@ -31,22 +24,18 @@ pub fn read_front<R: Read + Drop>(heap: Global, input: R, most: usize) -> io::Re
 }
 
 // The steps of the trace in an input, read into the list, or why it is refused.
-fn read_into(mut steps: Vec<Step>, bytes: &[u8]) -> Trace
+fn read_into(mut steps: Vec<Step>, bytes: &[u8]) -> Result<Vec<Step>, ReadRefusal>
     requires { vec_len steps ≡ 1024 }
     ensures { IsTrace bytes.now result }
 {
-    match read_input(bytes, &mut steps) {
-        Ok(count) => {
-            steps.truncate(count);
-            Trace::Steps(steps)
-        }
-        Err(refusal) => Trace::Refused(refusal),
-    }
+    let count = read_input(bytes, &mut steps)?;
+    steps.truncate(count);
+    Ok(steps)
 }
 
 // The steps of the trace in an input, at most 1,024, or why it is refused. It fails only for want of
 // memory.
-pub fn read_steps(heap: Global, bytes: &[u8]) -> Result<Trace, AllocError>
+pub fn read_steps(heap: Global, bytes: &[u8]) -> Result<Result<Vec<Step>, ReadRefusal>, AllocError>
     ensures { IfOk result (λ trace. IsTrace bytes.now trace) }
 {
     let unread = Step {

@@ -1,19 +1,17 @@
 -- What the program prints. Rests on the judge's verdict and on the text of a sheet.
-use Rattle.std.specs.Prelude.{◌≡◌, ℕ, List, [], ◌∷◌, take, replicate, Some, None, Ok, Err, codes, Option, Result}
+use Rattle.std.specs.Prelude.{◌≡◌, ℕ, List, [], ◌∷◌, map, take, replicate, Some, None, Ok, Err, codes, Option, Result}
 use Rattle.trace.specs.declared.act.Step.{Step}
 use Rattle.trace.specs.declared.fault.ReadRefusal.{ReadRefusal}
-use Rattle.trace.specs.Refusals.{read_number}
 use Rattle.console.specs.Inputs.{read, steps_of}
 use Rattle.console.specs.Sheets.{sheet_text}
 use Rattle.history.specs.Acts.{not_aborted}
 use Rattle.verdict.specs.declared.judge.Verdict.{Verdict}
 use Rattle.verdict.specs.declared.judge.Verdict.TheVariants.{Yes, No}
 use Rattle.verdict.specs.declared.refusal.JudgeRefusal.{JudgeRefusal}
-use Rattle.verdict.specs.Refusals.{refusal_number}
 use Rattle.verdict.specs.Turns.{acts}
 use Rattle.verdict.specs.Verdicts.{Judges}
 use Rattle.judge.specs.declared.line.Line.{Line}
-use Rattle.judge.specs.declared.line.Line.TheVariants.{Decided, Job, Refused}
+use Rattle.judge.specs.declared.line.Line.TheVariants.{Decided, Job, NotRead, NotJudged}
 use Rattle.judge.specs.Texts.{line_text}
 
 -- how many numbers a verdict comes with
@@ -23,8 +21,7 @@ verdict_count (No n) = n
 
 -- a line for each job
 abbrev pub job_lines : List ℕ → List Line
-job_lines [] = []
-job_lines (j ∷ js) = Job j ∷ job_lines js
+job_lines numbers = map Job numbers
 
 -- the verdict, and below it the jobs of its order or its cycle
 abbrev pub decided_lines : Verdict → List ℕ → List Line
@@ -33,7 +30,7 @@ decided_lines v numbers = Decided v ∷ job_lines (take (verdict_count v) number
 -- what is told of the judge's answer
 abbrev pub answer_lines : Result Verdict JudgeRefusal → List ℕ → List Line
 answer_lines (Ok v) numbers = decided_lines v numbers
-answer_lines (Err why) numbers = Refused (refusal_number why) ∷ []
+answer_lines (Err why) numbers = NotJudged why ∷ []
 
 -- these lines tell what the judge, lent 64 places, answers of the steps
 pub record Judged (steps : List Step) (lines : List Line) : Type 0 where
@@ -45,7 +42,7 @@ pub record Judged (steps : List Step) (lines : List Line) : Type 0 where
 -- steps that were read to the end are judged; else one line tells the reader's refusal
 abbrev pub JudgedUnless : Option ReadRefusal → List Step → List Line → Type 0
 JudgedUnless None steps lines = Judged steps lines
-JudgedUnless (Some why) steps lines = lines ≡ Refused (read_number why) ∷ []
+JudgedUnless (Some why) steps lines = lines ≡ NotRead why ∷ []
 
 -- these lines tell the judgement of the trace in an input
 abbrev pub JudgedInput : List ℕ → List Line → Type 0

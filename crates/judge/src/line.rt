@@ -3,7 +3,9 @@ ghost use Rattle.std.specs.Prelude.{Some};
 ghost use Rattle.judge.specs.Texts.{line_text};
 
 use std::fmt;
+use trace::fault::ReadRefusal;
 use verdict::judge::Verdict;
+use verdict::refusal::JudgeRefusal;
 
 // What a line tells.
 #[derive(Clone, Copy, PartialEq, Eq, Debug)]
@@ -12,8 +14,10 @@ pub(crate) enum Line {
     Decided(Verdict),
     // The number of a job.
     Job(u32),
-    // The number of the refusal, by the reader or by the judge.
-    Refused(u32),
+    // Why the reader refuses the trace.
+    NotRead(ReadRefusal),
+    // Why the judge refuses its steps.
+    NotJudged(JudgeRefusal),
 }
 
 impl fmt::Display for Line {
@@ -24,7 +28,8 @@ impl fmt::Display for Line {
             Line::Decided(Verdict::Yes(count)) => write!(f, "yes,{count}"),
             Line::Decided(Verdict::No(count)) => write!(f, "no,{count}"),
             Line::Job(number) => write!(f, "{number}"),
-            Line::Refused(number) => write!(f, "refused,{number}"),
+            Line::NotRead(refusal) => write!(f, "refused,{}", refusal.number()),
+            Line::NotJudged(refusal) => write!(f, "refused,{}", refusal.number()),
         }
     }
 }

@@ -5,7 +5,7 @@ ghost use Rattle.store.specs.Memories.{memory_values, memory_room};
 ghost use Rattle.rehearsal.specs.Playing.{Played, RehearsedOn, Rehearsed, RehearsedInput};
 
 use crate::turn::take_turn;
-use console::input::{Trace, read_steps};
+use console::input::read_steps;
 use hub::Hub;
 use lines::line::{Line, not_read};
 use std::alloc::{AllocError, Global};
@@ -55,8 +55,8 @@ pub fn rehearse_input(heap: Global, bytes: &[u8]) -> Result<Vec<Line>, AllocErro
     ensures { IfOk result (λ lines. RehearsedInput bytes.now lines.items) }
 {
     match read_steps(heap, bytes)? {
-        Trace::Steps(steps) => rehearse(heap, &steps),
-        Trace::Refused(refusal) => {
+        Ok(steps) => rehearse(heap, &steps),
+        Err(refusal) => {
             let mut lines = Vec::new(heap);
             lines.push(not_read(refusal))?;
             Ok(lines)

@@ -30,7 +30,7 @@ unended_reading : (room n start : ℕ) (bs : List ℕ) → 0 < length bs → len
 unended_reading room n start [] h e = absurd (omega arith)
 unended_reading room n start (b ∷ bs) h e = ap (reading room n start) (parted_unended 10 (b ∷ bs) e)
 
-first_unended : (place : LinePlace) (bs : List ℕ) → length (before 10 bs) ≡ length bs → first_line place bs ≡ Err (record { place = place; what = Unended })
+pub first_unended : (place : LinePlace) (bs : List ℕ) → length (before 10 bs) ≡ length bs → first_line place bs ≡ Err (record { place = place; what = Unended })
 first_unended place bs e = rw (eq-eqb (length (before 10 bs)) (length bs) e) refl
 
 pub first_ended : (place : LinePlace) (bs : List ℕ) → (length (before 10 bs) ≡ length bs → ⊥) → first_line place bs ≡ with_length (length (before 10 bs) + 1) (in_place place (act_on (before 10 bs)))

@@ -11,11 +11,6 @@ use Rattle.trace.specs.declared.fault.ReadRefusal.TheVariants.{Line, Full}
 use Rattle.trace.specs.Lines.{line_end, act_on, line_of, Sayable}
 use Rattle.trace.specs.Pieces.{parted, before}
 
--- a fault with the place that the layer above knows
-abbrev pub placed : {P X F : Type 0} → P → Result X F → Result X (P × F)
-placed place (Ok x) = Ok x
-placed place (Err fault) = Err (place, fault)
-
 -- what is wrong with a line, and where it stands
 abbrev pub in_place : LinePlace → Result Act LineCause → Result Act LineFault
 in_place place (Ok a) = Ok a

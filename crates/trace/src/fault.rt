@@ -1,6 +1,6 @@
 ghost use Rattle.std.specs.Prelude.{◌≡◌};
 ghost use Rattle.trace.specs.Limits.{limit};
-ghost use Rattle.trace.specs.Refusals.{cause_of, field_of, read_number, write_number};
+ghost use Rattle.trace.specs.Refusals.{cause_of, column_number, field_of, read_number, write_number};
 ghost use Rattle.trace.specs.declared.fault.FieldFault.TheVariants.{Number};
 ghost use Rattle.trace.specs.declared.fault.LineCause.TheVariants.{Field};
 ghost use Rattle.trace.specs.declared.fault.ReadRefusal.TheVariants.{Line};
@@ -26,9 +26,19 @@ impl Column {
         ensures { result ≡ limit self }
     {
         match self {
-            Column::Job => 4294967295,
+            Column::Job | Column::Value => u32::MAX,
             Column::Item => 63,
-            Column::Value => 4294967295,
+        }
+    }
+
+    // The number of the field, of which the kind letter is the first.
+    fn number(self) -> u32
+        ensures { result ≡ column_number self }
+    {
+        match self {
+            Column::Job => 2,
+            Column::Item => 3,
+            Column::Value => 4,
         }
     }
 }
@@ -103,9 +113,11 @@ impl LineFault {
         match self.what {
             LineCause::Unended | LineCause::FewFields | LineCause::ManyFields => 0,
             LineCause::Field(FieldFault::NoKind) => 1,
-            LineCause::Field(FieldFault::Number { column, .. }) => column_number(column),
-            LineCause::Field(FieldFault::Empty { column }) => column_number(column),
-            LineCause::Field(FieldFault::Filled { column }) => column_number(column),
+            LineCause::Field(
+                FieldFault::Number { column, .. }
+                | FieldFault::Empty { column }
+                | FieldFault::Filled { column },
+            ) => column.number(),
         }
     }
 }
@@ -119,17 +131,6 @@ impl From<(LinePlace, FieldFault)> for LineFault {
             place: e.0,
             what: LineCause::Field(e.1),
         }
-    }
-}
-
-// The number of a field, of which the kind letter is the first.
-fn column_number(column: Column) -> u32
-    ensures { result ≡ Rattle.trace.specs.Refusals.column_number column }
-{
-    match column {
-        Column::Job => 2,
-        Column::Item => 3,
-        Column::Value => 4,
     }
 }
 

@@ -1,5 +1,5 @@
 -- The reading of a trace, as the loop of the code goes on with it. Rests on the laws of one line.
-use Rattle.std.proofs.Common.{◌≡◌, ℕ, suc, ◌+◌, ◌-◌, ◌<◌, ◌≤◌, true, false, cond, eqb, List, [], ◌∷◌, ◌++◌, length, take, drop, set, Some, None, Ok, Err, Option, Result, sym, refl, ap, ◌∙◌, add-zero, zero-add, arith, length-drop, length-set, take-append-drop}
+use Rattle.std.proofs.Common.{◌≡◌, ℕ, suc, ◌+◌, ◌-◌, ◌<◌, ◌≤◌, true, false, cond, eqb, ◌==◌, position, List, [], ◌∷◌, ◌++◌, length, take, drop, set, Some, None, Ok, Err, Option, Result, sym, refl, ap, ◌∙◌, add-zero, zero-add, arith, length-drop, length-set, take-append-drop}
 use native.Mathlib.Nat.{sub-zero}
 use Rattle.std.proofs.lemmas.List.{take_rest, drop_all, drop-drop, take_more_set, drop-set-lt, append_assoc}
 use Rattle.std.proofs.lemmas.Bool.{eq-eqb, ne_eqb}
@@ -10,14 +10,19 @@ use Rattle.trace.specs.declared.fault.LineFault.{LineFault}
 use Rattle.trace.specs.declared.fault.ReadRefusal.{ReadRefusal}
 use Rattle.trace.specs.declared.fault.ReadRefusal.TheVariants.{Line, Full}
 use Rattle.trace.specs.Lines.{act_on}
-use Rattle.trace.specs.Pieces.{parted}
-use Rattle.trace.specs.Traces.{in_place, with_length, line_to, first_line, Reading, ends, also, place_of, reading, reading_of, numbered, answered, answer, list_after}
-use Rattle.trace.proofs.Readings.{good_line, bad_line}
+use Rattle.trace.specs.Pieces.{before, parted}
+use Rattle.trace.specs.Traces.{in_place, with_length, first_line, Reading, ends, also, place_of, reading, reading_of, numbered, answered, answer, list_after}
+use Rattle.trace.proofs.Readings.{first_ended, good_line, bad_line}
+use Rattle.trace_reader.proofs.Cutting.{found, cut_front}
 
 -- the first line, as the slice up to its end is read
 
-pub line_told : (place : LinePlace) (bs : List ℕ) (n : ℕ) (r : Result Act LineFault) → r ≡ in_place place (act_on (take (n - 0) bs)) → with_length (n + 1) r ≡ line_to place bs (Some n)
-line_told place bs n r h = ap (with_length (n + 1)) (h ∙ ap (λ m. in_place place (act_on (take m bs))) (sub-zero n))
+pub first_told : (place : LinePlace) (bs : List ℕ) (n : ℕ) (r : Result Act LineFault) → Some n ≡ position (λ b. b == 10) bs → r ≡ in_place place (act_on (take n bs)) → with_length (n + 1) r ≡ first_line place bs
+first_told place bs n r at h =
+    let f = found 10 bs n at in
+    ap (with_length (n + 1)) (h ∙ ap (λ l. in_place place (act_on l)) (cut_front 10 bs n f.0))
+    ∙ ap (λ m. with_length (m + 1) (in_place place (act_on (before 10 bs)))) f.0
+    ∙ sym (first_ended place bs (λ q. omega arith))
 
 -- the first line of what is left, as a slice reads it
 pub part_line : (place : LinePlace) (bytes : List ℕ) (start : ℕ) (r : Result (Act × ℕ) LineFault) → r ≡ first_line place (take (length bytes - start) (drop start bytes)) → first_line place (drop start bytes) ≡ r

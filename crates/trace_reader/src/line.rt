@@ -1,37 +1,26 @@
-ghost use Rattle.std.specs.Prelude.{◌≡◌, ℕ, ◌<◌, ◌≤◌, length, Some};
+ghost use Rattle.std.specs.Prelude.{◌≡◌, ◌==◌, length, position};
 ghost use Rattle.trace.specs.Kinds.{kind_of};
-ghost use Rattle.trace.specs.Lines.{job_alone, all_three, all_but_job, none_filled, act_of, act_on, in_line};
+ghost use Rattle.trace.specs.Lines.{job_alone, all_three, act_of, act_on, in_line};
 ghost use Rattle.trace.specs.Pieces.{before, behind, parted};
-ghost use Rattle.trace.specs.Traces.{placed, in_place, end_of, line_to, first_line};
+ghost use Rattle.trace.specs.Traces.{in_place, first_line};
 
 use crate::number::number;
 use trace::act::Act;
 use trace::fault::{Column, FieldFault, LineCause, LineFault, LinePlace};
 use trace::kind::Kind;
 
-// How many bytes stand before the first separator, or all of them where there is none.
-fn find(bytes: &[u8], separator: u8) -> usize
-    ensures value { result ≡ length (before separator bytes.now) }
-    ensures within { result ≤ length bytes.now }
+// The place of the first separator, if there is one.
+fn find(bytes: &[u8], separator: u8) -> Option<usize>
+    ensures { result ≡ position (λ b. b == separator) bytes.now }
 {
-    let mut i = 0;
-    while i < bytes.len() && bytes[i] != separator {
-        i += 1;
-    }
-    i
+    bytes.iter().position(|b| *b == separator)
 }
 
 // The number of pieces that commas part.
 fn count_fields(line: &[u8]) -> usize
     ensures { result ≡ length (parted 44 line.now) }
 {
-    let mut commas = 0;
-    for b in line {
-        if *b == b',' {
-            commas += 1;
-        }
-    }
-    commas + 1
+    line.iter().filter(|b| **b == b',').count() + 1
 }
 
 // What stands before the first comma, and what stands behind it.
@@ -39,11 +28,9 @@ fn cut(bytes: &[u8]) -> (&[u8], &[u8])
     ensures front { result.0.now ≡ before 44 bytes.now }
     ensures back { result.1.now ≡ behind 44 bytes.now }
 {
-    let end = find(bytes, b',');
-    if end < bytes.len() {
-        (&bytes[0..end], &bytes[end + 1..])
-    } else {
-        (bytes, &bytes[bytes.len()..])
+    match find(bytes, b',') {
+        Some(end) => (&bytes[..end], &bytes[end + 1..]),
+        None => (bytes, &[]),
     }
 }
 
@@ -63,16 +50,6 @@ fn kind_of(c: char) -> Option<Kind>
     }
 }
 
-// A fault goes up with the place that the layer above knows.
-fn at<P: Drop, T, F>(place: P, res: Result<T, F>) -> Result<T, (P, F)>
-    ensures { result ≡ placed place res }
-{
-    match res {
-        Ok(x) => Ok(x),
-        Err(fault) => Err((place, fault)),
-    }
-}
-
 // The number of a field that has to be filled.
 fn filled(column: Column, field: &[u8]) -> Result<u32, FieldFault>
     ensures { result ≡ Rattle.trace.specs.Lines.filled column field.now }
@@ -80,7 +57,7 @@ fn filled(column: Column, field: &[u8]) -> Result<u32, FieldFault>
     if field.is_empty() {
         return Err(FieldFault::Empty { column });
     }
-    let n = at(column, number(field, column.limit()))?;
+    let n = number(field, column.limit()).map_err(|fault| (column, fault))?;
     Ok(n)
 }
 
@@ -95,74 +72,69 @@ fn vacant(column: Column, field: &[u8]) -> Result<(), FieldFault>
     }
 }
 
-// The job of a line that fills nothing else.
-fn job_alone(job: &[u8], item: &[u8], value: &[u8]) -> Result<u32, FieldFault>
-    ensures { result ≡ job_alone job.now item.now value.now }
-{
-    let j = filled(Column::Job, job)?;
-    vacant(Column::Item, item)?;
-    vacant(Column::Value, value)?;
-    Ok(j)
+// The fields behind the kind letter.
+#[derive(Clone, Copy)]
+struct Fields<'a> {
+    job: &'a [u8],
+    item: &'a [u8],
+    value: &'a [u8],
 }
 
-// The job, the item and the value of a line that fills all three.
-fn all_three(job: &[u8], item: &[u8], value: &[u8]) -> Result<(u32, u32, u32), FieldFault>
-    ensures { result ≡ all_three job.now item.now value.now }
-{
-    let j = filled(Column::Job, job)?;
-    let x = filled(Column::Item, item)?;
-    let v = filled(Column::Value, value)?;
-    Ok((j, x, v))
-}
+impl Fields<'_> {
+    // The job, where nothing else is filled.
+    fn job_alone(&self) -> Result<u32, FieldFault>
+        ensures { result ≡ job_alone self.now.job.now self.now.item.now self.now.value.now }
+    {
+        let job = filled(Column::Job, self.job)?;
+        vacant(Column::Item, self.item)?;
+        vacant(Column::Value, self.value)?;
+        Ok(job)
+    }
 
-// The item and the value of a line that fills these two.
-fn all_but_job(job: &[u8], item: &[u8], value: &[u8]) -> Result<(u32, u32), FieldFault>
-    ensures { result ≡ all_but_job job.now item.now value.now }
-{
-    vacant(Column::Job, job)?;
-    let x = filled(Column::Item, item)?;
-    let v = filled(Column::Value, value)?;
-    Ok((x, v))
-}
+    // The job, the item and the value, where all three are filled.
+    fn all_three(&self) -> Result<(u32, u32, u32), FieldFault>
+        ensures { result ≡ all_three self.now.job.now self.now.item.now self.now.value.now }
+    {
+        let job = filled(Column::Job, self.job)?;
+        let item = filled(Column::Item, self.item)?;
+        let value = filled(Column::Value, self.value)?;
+        Ok((job, item, value))
+    }
 
-// A line that fills nothing behind its kind.
-fn none_filled(job: &[u8], item: &[u8], value: &[u8]) -> Result<(), FieldFault>
-    ensures { result ≡ none_filled job.now item.now value.now }
-{
-    vacant(Column::Job, job)?;
-    vacant(Column::Item, item)?;
-    vacant(Column::Value, value)
-}
-
-// The act of a kind, from its fields in turn.
-fn act_of(kind: Kind, job: &[u8], item: &[u8], value: &[u8]) -> Result<Act, FieldFault>
-    ensures { result ≡ act_of kind job.now item.now value.now }
-{
-    match kind {
-        Kind::Open => Ok(Act::Open {
-            job: job_alone(job, item, value)?,
-        }),
-        Kind::Read => {
-            let (job, item, value) = all_three(job, item, value)?;
-            Ok(Act::Read { job, item, value })
-        }
-        Kind::Write => {
-            let (job, item, value) = all_three(job, item, value)?;
-            Ok(Act::Write { job, item, value })
-        }
-        Kind::Commit => Ok(Act::Commit {
-            job: job_alone(job, item, value)?,
-        }),
-        Kind::Abort => Ok(Act::Abort {
-            job: job_alone(job, item, value)?,
-        }),
-        Kind::Peek => {
-            let (item, value) = all_but_job(job, item, value)?;
-            Ok(Act::Peek { item, value })
-        }
-        Kind::Retire => {
-            none_filled(job, item, value)?;
-            Ok(Act::Retire)
+    // The act of a kind.
+    fn act_of(&self, kind: Kind) -> Result<Act, FieldFault>
+        ensures { result ≡ act_of kind self.now.job.now self.now.item.now self.now.value.now }
+    {
+        match kind {
+            Kind::Open => Ok(Act::Open {
+                job: self.job_alone()?,
+            }),
+            Kind::Read => {
+                let (job, item, value) = self.all_three()?;
+                Ok(Act::Read { job, item, value })
+            }
+            Kind::Write => {
+                let (job, item, value) = self.all_three()?;
+                Ok(Act::Write { job, item, value })
+            }
+            Kind::Commit => Ok(Act::Commit {
+                job: self.job_alone()?,
+            }),
+            Kind::Abort => Ok(Act::Abort {
+                job: self.job_alone()?,
+            }),
+            Kind::Peek => {
+                vacant(Column::Job, self.job)?;
+                let item = filled(Column::Item, self.item)?;
+                let value = filled(Column::Value, self.value)?;
+                Ok(Act::Peek { item, value })
+            }
+            Kind::Retire => {
+                vacant(Column::Job, self.job)?;
+                vacant(Column::Item, self.item)?;
+                vacant(Column::Value, self.value)?;
+                Ok(Act::Retire)
+            }
         }
     }
 }
@@ -175,12 +147,10 @@ fn read_fields(line: &[u8]) -> Result<Act, FieldFault>
     let [letter, b',', rest @ ..] = line else {
         return Err(FieldFault::NoKind);
     };
-    let Some(kind) = kind_of(char::from(*letter)) else {
-        return Err(FieldFault::NoKind);
-    };
+    let kind = kind_of(char::from(*letter)).ok_or(FieldFault::NoKind)?;
     let (job, rest) = cut(rest);
     let (item, value) = cut(rest);
-    act_of(kind, job, item, value)
+    Fields { job, item, value }.act_of(kind)
 }
 
 // The act of a line, its line end taken off.
@@ -200,40 +170,20 @@ fn read_line(line: &[u8], place: LinePlace) -> Result<Act, LineFault>
             what: LineCause::ManyFields,
         });
     }
-    let act = at(place, read_fields(line))?;
+    let act = read_fields(line).map_err(|fault| (place, fault))?;
     Ok(act)
-}
-
-// The place of the first line end, if there is one.
-fn line_end(bytes: &[u8]) -> Option<usize>
-    ensures value { result ≡ end_of bytes.now }
-    ensures within { (n : ℕ) → result ≡ Some n → n < length bytes.now }
-{
-    let end = find(bytes, b'\n');
-    if end == bytes.len() {
-        return None;
-    }
-    Some(end)
-}
-
-// The act of the line up to its end, and its length with its line end.
-fn line_to(bytes: &[u8], end: usize, place: LinePlace) -> Result<(Act, usize), LineFault>
-    requires { end < length bytes.now }
-    ensures { result ≡ line_to place bytes.now (Some end) }
-{
-    let act = read_line(&bytes[0..end], place)?;
-    Ok((act, end + 1))
 }
 
 // The act of the first line of the bytes, and its length with its line end.
 pub fn first_line(bytes: &[u8], place: LinePlace) -> Result<(Act, usize), LineFault>
     ensures { result ≡ first_line place bytes.now }
 {
-    match line_end(bytes) {
-        Some(end) => line_to(bytes, end, place),
-        None => Err(LineFault {
+    let Some(end) = find(bytes, b'\n') else {
+        return Err(LineFault {
             place,
             what: LineCause::Unended,
-        }),
-    }
+        });
+    };
+    let act = read_line(&bytes[..end], place)?;
+    Ok((act, end + 1))
 }

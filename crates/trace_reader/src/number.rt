@@ -1,23 +1,29 @@
-ghost use Rattle.std.specs.Prelude.{◌≡◌, min, if◌then◌else◌, Some, None};
+ghost use Rattle.std.specs.Prelude.{◌≡◌, ◌^◌, ◌<◌, IsTrue, SomeIff};
 ghost use Rattle.std.specs.Str.Parse.{digits_value};
+ghost use Rattle.std.specs.Char.{is_ascii_digit};
+ghost use Rattle.std.specs.List.{list_all};
 ghost use Rattle.std.specs.Str.{all_ascii_digits};
 ghost use Rattle.trace.specs.Numbers.{number_of};
 
 use trace::fault::NumberFault;
 
-// The first number past every limit. Larger ones count as this one, however long they are.
-const TOO_LARGE: u64 = 4294967296;
-
-// The number that digits write, or none where a byte is no digit.
-fn digits_value(digits: &[u8]) -> Option<u64>
-    ensures { result ≡ (if all_ascii_digits digits.now then Some (min (digits_value 10 digits.now) 4294967296) else None) }
+// Whether each byte is a digit.
+fn all_digits(bytes: &[u8]) -> bool
+    ensures { result ≡ list_all is_ascii_digit bytes.now }
 {
-    let mut total: u64 = 0;
-    for b in digits {
-        if *b < b'0' || *b > b'9' {
-            return None;
-        }
-        total = (total * 10 + u64::from(*b - b'0')).min(TOO_LARGE);
+    bytes.iter().all(|b| b.is_ascii_digit())
+}
+
+// The number that digits write, where it has 32 bits.
+fn digits_value(digits: &[u8]) -> Option<u32>
+    requires { IsTrue (all_ascii_digits digits.now) }
+    ensures { SomeIff result (digits_value 10 digits.now < 2 ^ 32) (digits_value 10 digits.now) }
+{
+    let mut total: u32 = 0;
+    for digit in digits {
+        total = total
+            .checked_mul(10)?
+            .checked_add(u32::from(*digit - b'0'))?;
     }
     Some(total)
 }
@@ -26,14 +32,11 @@ fn digits_value(digits: &[u8]) -> Option<u64>
 pub fn number(field: &[u8], limit: u32) -> Result<u32, NumberFault>
     ensures { result ≡ number_of limit field.now }
 {
-    if field.is_empty() || (field[0] == b'0' && field.len() > 1) {
+    let leading_zero = field.len() > 1 && field[0] == b'0';
+    if field.is_empty() || leading_zero || !all_digits(field) {
         return Err(NumberFault::NotANumber);
     }
-    let Some(total) = digits_value(field) else {
-        return Err(NumberFault::NotANumber);
-    };
-    if total > u64::from(limit) {
-        return Err(NumberFault::AboveLimit);
-    }
-    Ok(total as u32)
+    digits_value(field)
+        .filter(|n| *n <= limit)
+        .ok_or(NumberFault::AboveLimit)
 }

@@ -1,18 +1,10 @@
-ghost use Rattle.std.specs.Prelude.{◌≡◌, ◌<◌, length, slice_set};
+ghost use Rattle.std.specs.Prelude.{◌≡◌, length};
 ghost use Rattle.trace.specs.Traces.{reading_of, reading_of_input, answer, list_after};
 ghost use Rattle.trace_reader.specs.Laws.{FirstBadLineDecides, ReadsWhatWasWritten, WritesBack};
 
 use crate::line::first_line;
 use trace::act::Step;
 use trace::fault::{LinePlace, ReadRefusal};
-
-// Puts a step into a place of the list.
-fn put_step(steps: &mut [Step], i: usize, step: Step)
-    requires { i < length steps.old }
-    ensures { steps.new ≡ slice_set steps.old i step }
-{
-    steps[i] = step;
-}
 
 // Reads every line of a trace into the lent list, and answers how many there are.
 //
@@ -25,6 +17,8 @@ pub fn read_trace(bytes: &[u8], steps: &mut [Step]) -> Result<usize, ReadRefusal
     ensures reads_what_was_written { ReadsWhatWasWritten bytes.now steps.old steps.new result }
     ensures writes_back { WritesBack bytes.now steps.new result }
 {
+    // By place: a fault tells where its line starts, and so far no library iterator over lines says where
+    // each of them stands.
     let mut count = 0;
     let mut start = 0;
     while start < bytes.len() {
@@ -33,7 +27,7 @@ pub fn read_trace(bytes: &[u8], steps: &mut [Step]) -> Result<usize, ReadRefusal
         if count == steps.len() {
             return Err(ReadRefusal::Full { line });
         }
-        put_step(steps, count, Step { line, act });
+        steps[count] = Step { line, act };
         count += 1;
         start += length;
     }

@@ -1,7 +1,7 @@
--- Lines written one behind the other. Rests on Laying and Trips.
+-- Lines written one behind the other. Rests on Trips.
 use Rattle.std.proofs.Common.{◌≡◌, ℕ, ◌+◌, ◌-◌, ◌<◌, ◌≤◌, cond, leb, List, [], ◌∷◌, ◌++◌, length, get_or, take, drop, Some, None, Ok, Err, Option, Result, sym, refl, ap, ◌∙◌, subst, inl, inr, add-zero, add_assoc, zero-add, arith, length-append}
 use native.Mathlib.Nat.{sub-zero}
-use Rattle.std.proofs.lemmas.List.{append-nil, append_assoc, take_at, drop_all, take_more, take_all, drop_more}
+use Rattle.std.proofs.lemmas.List.{append-nil, append_assoc, take_at, drop_at, length-take-le, drop_all, drop-drop, take_more, take_all, drop_more}
 use Rattle.std.proofs.lemmas.Bool.{cases_Bool, leb-true}
 use Rattle.trace.specs.declared.act.Act.{Act}
 use Rattle.trace.specs.declared.act.Act.TheVariants.{Open}
@@ -9,8 +9,8 @@ use Rattle.trace.specs.declared.fault.WriteRefusal.{WriteRefusal}
 use Rattle.trace.specs.declared.fault.WriteRefusal.TheVariants.{ItemAboveLimit, DoesNotFit}
 use Rattle.trace.specs.Lines.{item_of, line_of, Sayable}
 use Rattle.trace.specs.Traces.{reading_of, written, AllSayable}
-use Rattle.trace_writer.specs.Writing.{over, item_checked, fitted, writing, writing_on, writing_all, plus}
-use Rattle.trace_writer.proofs.Laying.{over_more}
+use Rattle.trace_writer.specs.Writing.{over, item_checked, fitted, writing, writing_on, writing_all, plus, laid}
+use borrow.Rule.Slice.PartMut.{put_mid}
 use Rattle.trace.proofs.Saying.{apart', same_ok}
 use Rattle.trace.proofs.Trips.{reading_written}
 
@@ -56,11 +56,6 @@ trace_reads_back acts out last n s e l room h =
     let t : take n last ≡ written acts = ap (take n) l ∙ take_at (written acts) (drop (length (written acts)) out) n (sym e) in
     ap (λ b. reading_of b room) t ∙ reading_written room 1 0 acts s h
 
-pub line_reads_back : (a : Act) (out last : List ℕ) (n : ℕ) → Sayable a → n ≡ length (line_of a) → last ≡ line_of a ++ drop (length (line_of a)) out → (room : ℕ) → 1 ≤ room → reading_of (take n last) room ≡ record { acts = a ∷ []; stop = None }
-line_reads_back a out last n s e l room h =
-    let w = append-nil (line_of a) in
-    trace_reads_back (a ∷ []) out last n (s, tt) (e ∙ sym (ap length w)) (l ∙ (λ i. sym w i ++ drop (length (sym w i)) out)) room h
-
 pub over_front : (s out : List ℕ) → over 0 s out ≡ s ++ drop (length s) out
 over_front s out = ap (λ n. s ++ drop n out) (zero-add (length s))
 
@@ -83,7 +78,28 @@ measured_more rest a total room k h e =
 pub measured_stop : (rest : List Act) (a : Act) (total room : ℕ) (why : WriteRefusal) → writing a (room - total) ≡ Err why → Err why ≡ plus total (writing_all (a ∷ rest) (room - total))
 measured_stop rest a total room why e = sym (ap (λ r. plus total (writing_on r λ k. writing_all rest (room - total - k))) e)
 
+-- one act is a list of one
+
+writing_one : (r : Result ℕ WriteRefusal) → writing_on r (λ n. Ok 0) ≡ r
+writing_one (Ok n) = ap Ok (add-zero n)
+writing_one (Err why) = refl
+
+pub one_of : (a : Act) (acts : List Act) (out last : List ℕ) (r : Result ℕ WriteRefusal) → acts ≡ a ∷ [] → r ≡ writing_all acts (length out) → last ≡ laid r (written acts) out → (r ≡ writing a (length out)) × (last ≡ laid r (line_of a) out)
+one_of a acts out last r is e l =
+    (e ∙ ap (λ acts. writing_all acts (length out)) is ∙ writing_one (writing a (length out)), l ∙ ap (λ acts. laid r (written acts) out) is ∙ ap (λ line. laid r line out) (append-nil (line_of a)))
+
 -- laying on
+
+-- a part put behind another is both put at once
+over_more : (out s t : List ℕ) (place n : ℕ) → n ≡ place + length s → n + length t ≤ length out → over n t (over place s out) ≡ over place (s ++ t) out
+over_more out s t place n e h =
+    let front = take place out ++ s in
+    let rest = drop (place + length s) out in
+    let long : length front ≡ n = length-append (take place out) s ∙ ap (λ m. m + length s) (length-take-le place out (omega arith)) ∙ sym e in
+    let whole : over place s out ≡ front ++ rest = sym (append_assoc (take place out) s rest) in
+    let a : take n (over place s out) ≡ front = ap (take n) whole ∙ take_at front rest n long in
+    let b : drop (n + length t) (over place s out) ≡ drop (place + length (s ++ t)) out = sym (drop-drop (length t) n (over place s out)) ∙ ap (λ l. drop (length t) (drop n l)) whole ∙ ap (drop (length t)) (drop_at front rest n long) ∙ drop-drop (length t) (place + length s) out ∙ ap (λ m. drop m out) (add_assoc place (length s) (length t) ∙ ap (λ m. place + m) (sym (length-append s t))) in
+    (λ i. a i ++ (t ++ b i)) ∙ append_assoc (take place out) s (t ++ drop (place + length (s ++ t)) out) ∙ ap (λ l. take place out ++ l) (sym (append_assoc s t (drop (place + length (s ++ t)) out)))
 
 pub written_append : (xs ys : List Act) → written (xs ++ ys) ≡ written xs ++ written ys
 written_append [] ys = refl
@@ -126,6 +142,11 @@ laid_more acts entry out last i place k s h e l =
       room = omega arith;
       held = l ∙ ap (over place line) s.held ∙ over_more entry (written (take i acts)) line 0 place (omega arith) (omega arith) ∙ ap (λ b. over 0 b entry) (sym w);
     }
+
+-- a line that was copied into its place lies over what was there
+pub put_over : (out line part : List ℕ) (place n : ℕ) → part ≡ line → n ≡ length line → put_mid place n out part ≡ over place line out
+put_over out line part place n e l =
+    (λ i. take place out ++ (e i ++ drop (l i) (drop place out))) ∙ ap (λ r. take place out ++ (line ++ r)) (drop-drop (length line) place out)
 
 pub laid_all : (acts : List Act) (entry out : List ℕ) (i place : ℕ) → Laid acts entry out i place → length acts ≤ i → out ≡ over 0 (written acts) entry
 laid_all acts entry out i place s h = s.held ∙ ap (λ l. over 0 (written l) entry) (take_all i acts h)

@@ -1,17 +1,12 @@
-use Rattle.std.proofs.Common.{arith}
-use Rattle.trace_reader.proofs.Cutting.{cut_front, cut_back, uncut_front, uncut_back}
+use Rattle.trace_reader.proofs.Cutting.{found, not_found, cut_front, cut_back, uncut_front, uncut_back}
 use Rattle.trace_reader.proofs.line.cut.Goals as goal
 
-pub returns-then-end-bytes : goal.returns-then-end-bytes
-returns-then-end-bytes c =
-    record {
-      front = cut_front 44 c.args.bytes.now c.find-end.result c.find-end.ensures.value;
-      back = cut_back 44 c.args.bytes.now c.find-end.result c.find-end.ensures.value;
-    }
+pub returns-in-Some : goal.returns-in-Some
+returns-in-Some c =
+    let end = (found 44 c.args.bytes.now c.in-Some.end c.in-Some.ensures).0 in
+    record { front = cut_front 44 c.args.bytes.now _ end; back = cut_back 44 c.args.bytes.now _ end }
 
-pub returns-else-end-bytes : goal.returns-else-end-bytes
-returns-else-end-bytes c =
-    record {
-      front = uncut_front 44 c.args.bytes.now (omega (arith, c.find-end.ensures.value));
-      back = uncut_back 44 c.args.bytes.now (omega (arith, c.find-end.ensures.value));
-    }
+pub returns-in-None : goal.returns-in-None
+returns-in-None c =
+    let end = not_found 44 c.args.bytes.now c.in-None.ensures in
+    record { front = uncut_front 44 c.args.bytes.now end; back = uncut_back 44 c.args.bytes.now end }

@@ -1,23 +1,25 @@
-use Rattle.std.proofs.Common.{get_or, arith}
-use Rattle.std.proofs.lemmas.Int.Digits.{digits_more, digits_value_more}
-use Rattle.trace_reader.proofs.Figures.{digit_below, no_value, all_value}
-use Rattle.trace_reader.proofs.number.digits_value.Goals.{then-b-lt48-via-then-b-lt48, then-b-lt48-via-else-b-lt48+then-b-gt57}
+use Rattle.std.proofs.Common.{ap, arith}
+use Rattle.std.proofs.lemmas.List.{take_all}
+use Rattle.std.specs.Str.Parse.{digits_value}
+use Rattle.trace_reader.proofs.Figures.{one_more}
 use Rattle.trace_reader.proofs.number.digits_value.Goals as goal
 
-pub returns-then-b-lt48 : goal.returns-then-b-lt48
-returns-then-b-lt48 c =
-    elim c.then-b-lt48.branch [
-      | then-b-lt48-via-then-b-lt48 w ↦ no_value c.args.digits.now c.loop-b.b-index c.loop-b-test.true (λ h. omega (arith, w.if-b-lt48.true))
-      | then-b-lt48-via-else-b-lt48+then-b-gt57 w ↦ no_value c.args.digits.now c.loop-b.b-index c.loop-b-test.true (λ h. omega (arith, w.if-b-gt57.true))
-    ]
+pub returns-in_err-checked_mul : goal.returns-in_err-checked_mul
+returns-in_err-checked_mul c =
+    rw c.from_residual.ensures (λ h. c.in_err-checked_mul.ensures (omega (arith, one_more c.args.digits.now c.loop-digit.digit-index c.requires c.loop-digit-test.true)))
 
-pub loop-b-preserved : goal.loop-b-preserved
-loop-b-preserved c =
-    let digit = digit_below (get_or c.args.digits.now c.loop-b.b-index 0) (c.if-b-lt48.false, c.if-b-gt57.false) in (
-      digits_more 10 c.args.digits.now c.loop-b.b-index c.loop-b-test.true c.loop-b.invariant.0 (omega arith),
-      omega (arith, digits_value_more 10 c.args.digits.now c.loop-b.b-index c.loop-b-test.true),
-    )
+pub overflow_sub-digit : goal.overflow_sub-digit
+overflow_sub-digit c = (one_more c.args.digits.now c.loop-digit.digit-index c.requires c.loop-digit-test.true).0
+
+pub returns-in_err-total : goal.returns-in_err-total
+returns-in_err-total c =
+    rw c.from_residual-in_err-total.ensures (λ h. c.in_err-total.ensures (omega (arith, one_more c.args.digits.now c.loop-digit.digit-index c.requires c.loop-digit-test.true, c.in_ok-checked_mul.ensures, c.from.ensures)))
+
+pub loop-digit-preserved : goal.loop-digit-preserved
+loop-digit-preserved c = record {
+  fits = omega (arith, c.in_ok-total.ensures);
+  so_far = omega (arith, one_more c.args.digits.now c.loop-digit.digit-index c.requires c.loop-digit-test.true, c.in_ok-total.ensures, c.in_ok-checked_mul.ensures, c.from.ensures);
+}
 
 pub returns : goal.returns
-returns c =
-    all_value c.args.digits.now c.loop-b.total c.loop-b.b-index c.loop-b-test.false c.loop-b.invariant.0 c.loop-b.invariant.1
+returns c = let e = ap (digits_value 10) (take_all _ c.args.digits.now c.loop-digit-test.false) in (omega arith, omega arith)

@@ -1,11 +1,11 @@
-use Rattle.std.proofs.Common.{◌≡◌, ℕ, ◌+◌, List, length, Result, sym, subst, subst₂, arith}
+use Rattle.std.proofs.Common.{◌≡◌, ℕ, ◌+◌, List, length, Result, sym, subst₂, arith}
 use Rattle.trace.specs.declared.act.Step.{Step}
 use Rattle.trace.specs.declared.fault.ReadRefusal.{ReadRefusal}
 use Rattle.trace_reader.proofs.Laws.{first_bad_line_decides, reads_what_was_written, writes_back}
 use Rattle.std.proofs.lemmas.Result.{err_from_is_err_and}
 use Rattle.trace.specs.Traces.{place_of, answer, reading_of, list_after}
 use Rattle.trace_reader.specs.Laws.{FirstBadLineDecides, ReadsWhatWasWritten, WritesBack}
-use Rattle.trace_reader.proofs.Progress.{part_line, line_within, Sofar, sofar_more, sofar_bad, sofar_full, sofar_all}
+use Rattle.trace_reader.proofs.Progress.{part_line, line_within, sofar_more, sofar_bad, sofar_full, sofar_all}
 use Rattle.trace_reader.proofs.reader.read_trace.Goals as goal
 
 -- the laws of the outcome, said of what the code answers and leaves
@@ -50,8 +50,7 @@ loop-start-smaller c =
 pub loop-start-preserved : goal.loop-start-preserved
 loop-start-preserved c =
     let e = part_line (place_of (c.loop-start.count + 1) c.loop-start.start) c.args.bytes.now c.loop-start.start _ c.in_ok-act.ensures in
-    subst (λ l. Sofar c.args.bytes.now c.args.steps.now l (c.loop-start.count + 1) (c.loop-start.start + c.in_ok-act.length)) (sym c.put_step.ensures)
-    (sofar_more c.args.bytes.now c.args.steps.now c.loop-start.steps c.loop-start.count c.loop-start.start _ _ c.loop-start.invariant (omega arith) e)
+    sofar_more c.args.bytes.now c.args.steps.now c.loop-start.steps c.loop-start.count c.loop-start.start _ _ c.loop-start.invariant (omega arith) e
 
 pub returns : goal.returns
 returns c =

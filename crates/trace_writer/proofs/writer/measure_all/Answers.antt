@@ -7,14 +7,14 @@ use Rattle.trace_writer.proofs.writer.measure_all.Goals as goal
 pub returns-in_err-total : goal.returns-in_err-total
 returns-in_err-total c =
     let p = err_from_is_err_and c.from_residual.result c.from_residual.ensures.1 in
-    let e = measured_refused c.args.acts.now c.args.room c.loop-i.i c.loop-i.total _ c.loop-i.invariant c.loop-i-test.true (sym c.in_err-total.ensures.answered) in
+    let e = measured_refused c.args.acts.now c.args.room c.loop-act.act-index c.loop-act.total _ c.loop-act.invariant c.loop-act-test.true (sym c.in_err-total.ensures.answered) in
     record { answered = rw (p.1, p.2) e; sayable = λ n q. absurd (apart' _ _ (sym p.1 ∙ q)); within = λ n q. absurd (apart' _ _ (sym p.1 ∙ q)) }
 
-pub loop-i-preserved : goal.loop-i-preserved
-loop-i-preserved c =
-    measured_on c.args.acts.now c.args.room c.loop-i.i c.loop-i.total _ c.loop-i.invariant c.loop-i-test.true (sym c.in_ok-total.ensures.answered) (c.in_ok-total.ensures.sayable _ refl)
+pub loop-act-preserved : goal.loop-act-preserved
+loop-act-preserved c =
+    measured_on c.args.acts.now c.args.room c.loop-act.act-index c.loop-act.total _ c.loop-act.invariant c.loop-act-test.true (sym c.in_ok-total.ensures.answered) (c.in_ok-total.ensures.sayable _ refl)
 
 pub returns : goal.returns
 returns c =
-    let s = measured_all c.args.acts.now c.args.room c.loop-i.i c.loop-i.total c.loop-i.invariant c.loop-i-test.false in
-    record { answered = s.0; sayable = λ n q. s.1; within = λ n q. omega (arith, writing_all_says c.args.acts.now c.args.room c.loop-i.total (sym s.0)) }
+    let s = measured_all c.args.acts.now c.args.room c.loop-act.act-index c.loop-act.total c.loop-act.invariant c.loop-act-test.false in
+    record { answered = s.0; sayable = λ n q. s.1; within = λ n q. omega (arith, writing_all_says c.args.acts.now c.args.room c.loop-act.total (sym s.0)) }

@@ -1,15 +1,15 @@
-use Rattle.std.proofs.Common.{sym, refl, ◌∙◌}
+use Rattle.std.proofs.Common.{length, sym, refl, ◌∙◌}
 use Rattle.trace.specs.Traces.{written}
 use Rattle.trace_writer.proofs.Batches.{writing_all_says, trace_reads_back, over_front}
 use Rattle.trace.proofs.Saying.{same_ok}
-use Rattle.trace_writer.proofs.writer.lay_lines.Goals as goal
+use Rattle.trace_writer.proofs.writer.write_trace.Goals as goal
 
 pub returns : goal.returns
 returns c =
     let acts = c.args.acts.now in
     let out = c.args.out.now in
     let said = c.in_ok-length.ensures in
-    let long = (writing_all_says acts c.args.room c.in_ok-length.length (sym said.answered)).0 in
+    let long = (writing_all_says acts (length out) c.in_ok-length.length (sym said.answered)).0 in
     let after = c.put_lines.ensures ∙ over_front (written acts) out in
     record {
       answered = said.answered;
