@@ -1,0 +1,15 @@
+-- A hub over a store in lent memory. Rests on the machine.
+use Rattle.std.specs.Prelude.{ℕ, List, replicate}
+use Rattle.history.specs.Machine.{State, made}
+
+-- the room of a store in memory, which no put takes from
+abbrev pub plenty : ℕ
+plenty = 4294967295
+
+-- 64 items that hold 0
+abbrev pub zeros : List ℕ
+zeros = replicate 64 0
+
+-- a hub that was just made: 32 slots, no job, the number of the first, and what the memory holds
+abbrev pub start : ℕ → List ℕ → State
+start first opening = made 32 first opening plenty
