@@ -12,8 +12,8 @@ pub record Going (room : ℕ) (s : State) (all : List Call) (h : State) (rest : 
   pub runs : Runs s made h
   pub left : made ++ run_from room h rest ≡ run_from room s all
 
-pub going_start : (room : ℕ) (s : State) (all : List Call) → Going room s all s all
-going_start room s all = record { made = []; runs = refl; left = refl }
+pub going_begin : (room : ℕ) (s : State) (all : List Call) → Going room s all s all
+going_begin room s all = record { made = []; runs = refl; left = refl }
 
 module _ {room : ℕ} {s : State} {all : List Call} {h : State} where
   -- one call more
