@@ -1,12 +1,13 @@
 -- Steps played one after another.
-use Rattle.std.proofs.Common.{◌≡◌, ℕ, ◌+◌, ◌<◌, ◌≤◌, List, [], ◌∷◌, ◌++◌, length, get_or, drop, sym, refl, ap, ◌∙◌, subst}
-use Rattle.std.proofs.lemmas.List.{append_assoc, append-nil, drop_more, drop_all}
+use Rattle.std.proofs.Common.{◌≡◌, ℕ, ◌+◌, ◌<◌, List, [], ◌∷◌, ◌++◌, length, get_or, drop, refl, ap, ◌∙◌, subst}
+use Rattle.std.proofs.lemmas.List.{append_assoc, drop_more}
 use Rattle.trace.specs.declared.act.Act.TheVariants.{Open}
 use Rattle.trace.specs.declared.act.Step.{Step}
 use Rattle.history.specs.Machine.{State, made, Call, Answer, answer, after_call}
+use Rattle.history.specs.Runs.{Turn}
 use Rattle.history.specs.Acting.{call_of, run_from}
 use Rattle.history.specs.Promises.{EveryRunFrom}
-use Rattle.history.proofs.Acting.{Going, going_begin, going_turn, going_runs}
+use Rattle.history.proofs.Acting.{Going, going_turn}
 use Rattle.hub.specs.InMemory.{plenty, start}
 use Rattle.lines.specs.declared.line.Line.{Line}
 use Rattle.rehearsal.specs.Playing.{calls_of, answer_lines, lines_of, called, run_of, Answered, Played, RehearsedOn}
@@ -17,11 +18,9 @@ called_run s (c ∷ cs) = ap (λ (z : List Call). c ∷ z) (called_run (after_ca
 
 -- so far, the hub has come to the state h, the steps in rest are left, and the lines are these
 pub record Telling (s : State) (steps : List Step) (before : List Line) (h : State) (rest : List Step) (lines : List Line) : Type 0 where
-  pub going : Going plenty s (calls_of steps) h (calls_of rest)
+  pub made : List Turn
+  pub going : Going plenty s (calls_of steps) made h (calls_of rest)
   pub told : lines ++ lines_of rest (run_from plenty h (calls_of rest)) ≡ before ++ lines_of steps (run_from plenty s (calls_of steps))
-
-pub telling_begin : (s : State) (steps : List Step) (before : List Line) → Telling s steps before s steps before
-telling_begin s steps before = record { going = going_begin plenty s (calls_of steps); told = refl }
 
 module _ (s : State) (steps : List Step) (before : List Line) (h : State) where
   telling_turn : (t : State) (step : Step) (rest : List Step) (lines lines' : List Line)
@@ -33,6 +32,7 @@ module _ (s : State) (steps : List Step) (before : List Line) (h : State) where
       let said : lines' ≡ lines ++ answer_lines step.line (answer h c) =
       q.lines ∙ ap (λ (a : Answer). lines ++ answer_lines step.line a) q.steps.answers in
       record {
+        made = so_far.made ++ record { call = c; answer = answer h c } ∷ [];
         going = going_turn c (calls_of rest) q.told t e q.steps so_far.going;
         told =
             ap (λ (z : List Line). z ++ lines_of rest (run_from plenty t (calls_of rest))) said
@@ -40,9 +40,6 @@ module _ (s : State) (steps : List Step) (before : List Line) (h : State) where
             ∙ ap (λ (z : State). lines ++ (answer_lines step.line (answer h c) ++ lines_of rest (run_from plenty z (calls_of rest)))) next
             ∙ so_far.told;
       }
-
-  telling_end : (lines : List Line) → Telling s steps before h [] lines → Played s steps before h lines
-  telling_end lines so_far = record { runs = going_runs so_far.going; lines = sym (append-nil lines) ∙ so_far.told }
 
   -- the same at the i-th step of the list
   pub telling_more : (t : State) (i : ℕ) (lines lines' : List Line) → i < length steps → t.room ≡ plenty
@@ -52,10 +49,6 @@ module _ (s : State) (steps : List Step) (before : List Line) (h : State) where
       let step = get_or steps i (record { line = 0; act = Open 0 }) in
       telling_turn t step (drop (i + 1) steps) lines lines' e q
       (subst (λ (z : List Step). Telling s steps before h z lines) (drop_more steps i (record { line = 0; act = Open 0 }) l) so_far)
-
-  pub telling_all : (i : ℕ) (lines : List Line) → length steps ≤ i → Telling s steps before h (drop i steps) lines → Played s steps before h lines
-  telling_all i lines l so_far =
-      telling_end lines (subst (λ (z : List Step). Telling s steps before h z lines) (drop_all i steps l) so_far)
 
 -- a hub that was just made, with what it promises of every run, and the steps played on it
 pub rehearsed : (s t : State) (first room : ℕ) (values opening : List ℕ) (steps : List Step) (before lines : List Line)
