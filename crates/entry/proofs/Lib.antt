@@ -1,3 +1,2 @@
 mod Requests
 mod Turns
-mod Decodes

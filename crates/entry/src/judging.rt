@@ -1,8 +1,8 @@
 // A list of requests, judged.
 ghost use Rattle.std.specs.Prelude.{◌≡◌, ◌≤◌, length};
-ghost use Rattle.entry.specs.Judging.{reply, step_index, Decodes, JudgesAll};
+ghost use Rattle.entry.specs.Judging.{reply, Decodes, JudgesAll};
 
-use crate::request::{Reply, Request, read_act};
+use crate::request::{Reply, Request};
 use trace::act::{Act, Step};
 use verdict::judge::{Verdict, judge};
 use verdict::refusal::JudgeRefusal;
@@ -15,8 +15,8 @@ fn decode(requests: &[Request], steps: &mut [Step]) -> usize
     requires { length requests.now ≤ length steps.old }
     ensures { Decodes requests.now result steps.new }
 {
-    for at in 0..requests.len() {
-        let Some(act) = read_act(&requests[at]) else {
+    for (at, request) in requests.iter().enumerate() {
+        let Some(act) = request.act() else {
             return at;
         };
         steps[at] = Step { line: at, act };
@@ -24,34 +24,23 @@ fn decode(requests: &[Request], steps: &mut [Step]) -> usize
     requests.len()
 }
 
-// The index that goes with a refusal: that of the step out of turn, or 0.
-fn index_of(refusal: &JudgeRefusal) -> usize
-    ensures { result ≡ step_index refusal.now }
-{
-    match refusal {
-        JudgeRefusal::OutOfTurn { index } => *index,
-        JudgeRefusal::TooManyJobs => 0,
-        JudgeRefusal::ListTooShort => 0,
-    }
-}
+// The reply to what the judge answers: with a step out of turn goes its index.
+impl From<Result<Verdict, JudgeRefusal>> for Reply {
+    ghost from_gives = { λ answer told. told ≡ reply answer };
 
-// The reply that tells what the judge answers.
-fn tell(answer: Result<Verdict, JudgeRefusal>) -> Reply
-    ensures { result ≡ reply answer }
-{
-    match answer {
-        Ok(Verdict::Yes(count)) => Reply {
-            code: 0,
-            number: count,
-        },
-        Ok(Verdict::No(count)) => Reply {
-            code: 1,
-            number: count,
-        },
-        Err(refusal) => Reply {
-            code: refusal.number(),
-            number: index_of(&refusal),
-        },
+    fn from(answer: Result<Verdict, JudgeRefusal>) -> Reply {
+        match answer {
+            Ok(Verdict::Yes(number)) => Reply { code: 0, number },
+            Ok(Verdict::No(number)) => Reply { code: 1, number },
+            Err(JudgeRefusal::OutOfTurn { index }) => Reply {
+                code: JudgeRefusal::OutOfTurn { index }.number(),
+                number: index,
+            },
+            Err(refusal) => Reply {
+                code: refusal.number(),
+                number: 0,
+            },
+        }
     }
 }
 
@@ -81,5 +70,5 @@ pub extern "C" fn sathkeif_judge(requests: &[Request], numbers: &mut [u32]) -> R
             number: count,
         };
     }
-    tell(judge(&steps[0..count], numbers))
+    judge(&steps[..count], numbers).into()
 }

@@ -23,24 +23,26 @@ pub struct Reply {
     pub number: usize,
 }
 
-// The act of a request, if its kind is known.
-pub(crate) fn read_act(request: &Request) -> Option<Act>
-    ensures { result ≡ act_of request.now }
-{
-    let Request {
-        kind,
-        job,
-        item,
-        value,
-    } = *request;
-    match kind {
-        0 => Some(Act::Open { job }),
-        1 => Some(Act::Read { job, item, value }),
-        2 => Some(Act::Write { job, item, value }),
-        3 => Some(Act::Commit { job }),
-        4 => Some(Act::Abort { job }),
-        5 => Some(Act::Peek { item, value }),
-        6 => Some(Act::Retire),
-        _ => None,
+impl Request {
+    // The act of the request, if its kind is known.
+    pub(crate) fn act(&self) -> Option<Act>
+        ensures { result ≡ act_of self.now }
+    {
+        let Request {
+            kind,
+            job,
+            item,
+            value,
+        } = *self;
+        match kind {
+            0 => Some(Act::Open { job }),
+            1 => Some(Act::Read { job, item, value }),
+            2 => Some(Act::Write { job, item, value }),
+            3 => Some(Act::Commit { job }),
+            4 => Some(Act::Abort { job }),
+            5 => Some(Act::Peek { item, value }),
+            6 => Some(Act::Retire),
+            _ => None,
+        }
     }
 }

@@ -1,3 +1,4 @@
+pub mod Acting
 pub mod Arrangements
 pub mod Blocks
 pub mod Changes

@@ -5,6 +5,7 @@ pub mod Serial
 pub mod Refusals
 pub mod Machine
 pub mod Runs
+pub mod Acting
 pub mod Promises
 pub mod Laws
 pub mod Cases

@@ -9,7 +9,21 @@ use Rattle.scheduler.proofs.Commits.{those_next_in, those_next_out}
 use Rattle.store.proofs.Puts.{put_granted}
 use Rattle.store.specs.Stores.{Puts, Turns}
 use Rattle.store.specs.declared.store.PutRefused.{PutRefused}
-use Rattle.hub.specs.Putting.{PutAll, PutBelow, PutInTurn, held_below, held_pairs, with_values}
+use Rattle.hub.specs.Putting.{PutAll, PutInTurn, held_pairs, with_values}
+
+-- the items below n that job j holds, rising
+unfoldable pub held_below : (ℕ → Option Holding) → ℕ → ℕ → List ℕ
+held_below held j n = those (λ x. holds j (held x)) (rising 0 n)
+
+-- on the way: of the first items, as many as are served, the store has got what job j holds of those below
+-- n, in turn; there is room for all of it
+pub record OnTheWay {S : Type 0} (values : S → List ℕ) (room : S → ℕ) (becomes : S → ℕ → ℕ → S → Type 0) (held : ℕ → Option Holding) (j served n : ℕ) (before after : S) : Type 0 where
+  pub inside : served ≤ length (values before)
+  pub enough : length (held_below held j served) ≤ room before
+  pub put : values after ≡ put_all held (held_below held j n) (values before)
+  pub takes : room before ≤ room after + length (held_below held j n)
+  pub keeps : length (held_below held j n) ≡ 0 → room after ≡ room before
+  pub turns : PutInTurn becomes before (with_values held (held_below held j n)) after
 
 no_value : {X : Type 0} (v : ℕ) → ◌≡◌ {A = Option ℕ} None (Some v) → X
 no_value v e = let z : ◌≡◌ {A = ℕ} 0 1 = cc in absurd (omega arith)
@@ -70,13 +84,12 @@ put_in_turn_more becomes before [] store after x v e p = (after, subst (λ s. be
 put_in_turn_more becomes before (put ∷ puts) store after x v e p = (e.0, e.1, put_in_turn_more becomes e.0 puts store after x v e.2 p)
 
 module _ {S : Type 0} (values : S → List ℕ) (room : S → ℕ) (becomes : S → ℕ → ℕ → S → Type 0) (held : ℕ → Option Holding) (j served : ℕ) (before : S) where
-  pub put_none : served ≤ length (values before) → length (held_below held j served) ≤ room before → PutBelow values room becomes held j served 0 before before
-  unfolding PutBelow held_below those rising put_all
+  pub put_none : served ≤ length (values before) → length (held_below held j served) ≤ room before → OnTheWay values room becomes held j served 0 before before
+  unfolding held_below those rising put_all
   put_none inside enough = record { inside = inside; enough = enough; put = refl; takes = omega arith; keeps = λ _. refl; turns = refl }
 
-  module _ (n : ℕ) (store : S) (so_far : PutBelow values room becomes held j served n before store) where
-    pub put_past : None ≡ value_of j (held n) → PutBelow values room becomes held j served (n + 1) before store
-    unfolding PutBelow
+  module _ (n : ℕ) (store : S) (so_far : OnTheWay values room becomes held j served n before store) where
+    pub put_past : None ≡ value_of j (held n) → OnTheWay values room becomes held j served (n + 1) before store
     put_past e =
         let f = below_out held j n (value_none j (held n) (sym e)) in
         record {
@@ -96,11 +109,9 @@ module _ {S : Type 0} (values : S → List ℕ) (room : S → ℕ) (becomes : S 
       grows = ap length (below_in held j n (value_held j (held n) v e).0) ∙ length-append (held_below held j n) (n ∷ [])
 
       put_inside : n < length (values store)
-      unfolding PutBelow
       put_inside = let f = ap length so_far.put ∙ put_all_long held (held_below held j n) (values before) in omega (arith, so_far.inside)
 
       put_has_room : 0 < room store
-      unfolding PutBelow
       put_has_room =
           let f = below_more held j (n + 1) (served - (n + 1)) in
           let g : n + 1 + (served - (n + 1)) ≡ served = omega arith in
@@ -120,8 +131,7 @@ module _ {S : Type 0} (values : S → List ℕ) (room : S → ℕ) (becomes : S 
       put_granted_here after (Ok _) p t = (p.2, p.3, t)
       put_granted_here after (Err e) p t = let no = (put_granted (values store) (values after) (room store) (room after) n v (Err e) p put_inside put_has_room).0 in let z : ◌≡◌ {A = ℕ} 0 1 = cc in absurd (omega arith)
 
-      pub put_one : (after : S) (r : Result (Unit {0}) PutRefused) → Puts (values store) (room store) n v r (values after) (room after) → Turns becomes store n v r after → PutBelow values room becomes held j served (n + 1) before after
-      unfolding PutBelow
+      pub put_one : (after : S) (r : Result (Unit {0}) PutRefused) → Puts (values store) (room store) n v r (values after) (room after) → Turns becomes store n v r after → OnTheWay values room becomes held j served (n + 1) before after
       put_one after r p t =
           let is = value_held j (held n) v e in
           let got = put_granted_here after r p t in
@@ -141,13 +151,12 @@ pub holdings_below : (s : State) (j n : ℕ) → n ≡ min 64 (length s.values) 
 unfolding held_below holdings
 holdings_below s j n e = ap (λ k. length (those (λ x. holds j (s.held x)) (rising 0 k))) e
 
-module _ {S : Type 0} (values : S → List ℕ) (room : S → ℕ) (becomes : S → ℕ → ℕ → S → Type 0) (s : State) (j n served : ℕ) (before after : S) (e : n ≡ min 64 (length s.values)) (vs : s.values ≡ values before) (r : s.room ≡ room before) (p : PutBelow values room becomes s.held j served n before after) where
+module _ {S : Type 0} (values : S → List ℕ) (room : S → ℕ) (becomes : S → ℕ → ℕ → S → Type 0) (s : State) (j n served : ℕ) (before after : S) (e : n ≡ min 64 (length s.values)) (vs : s.values ≡ values before) (r : s.room ≡ room before) (p : OnTheWay values room becomes s.held j served n before after) where
   same_items : held_below s.held j n ≡ holdings s j
   unfolding held_below holdings
   same_items = ap (λ k. those (λ x. holds j (s.held x)) (rising 0 k)) e
 
   pub put_below_all : PutAll s j (values after) (room after)
-  unfolding PutBelow
   put_below_all =
       let f = same_items in (
         p.put ∙ ap (λ l. put_all s.held l (values before)) f ∙ ap (put_all s.held (holdings s j)) (sym vs),
@@ -156,5 +165,4 @@ module _ {S : Type 0} (values : S → List ℕ) (room : S → ℕ) (becomes : S 
       )
 
   pub put_below_turns : PutInTurn becomes before (held_pairs s j) after
-  unfolding PutBelow
   put_below_turns = subst (λ l. PutInTurn becomes before (with_values s.held l) after) same_items p.turns

@@ -1,15 +1,16 @@
 -- How a peek and a commit step. Assumes nothing.
-use Rattle.std.proofs.Common.{◌≡◌, ℕ, ◌+◌, ◌<◌, ◌≤◌, min, Bool, true, false, cond, ltb, leb, List, length, get_or, Some, None, Ok, Err, Option, Result, sym, refl, ap, ◌∙◌, inl, inr, arith}
-use Rattle.std.proofs.lemmas.Bool.{cases_lt, lt-ltb, le-ltb, le-leb, lt-leb, leb-true, leb-false}
+use Rattle.std.proofs.Common.{◌≡◌, ℕ, ◌+◌, ◌<◌, ◌≤◌, min, cond, ltb, List, length, get_or, Some, None, Ok, Err, Option, Result, sym, refl, ap, ◌∙◌, subst, inl, inr, arith}
+use Rattle.std.proofs.lemmas.Bool.{cases_lt, lt-ltb, le-ltb, le-leb, lt-leb}
+use Rattle.std.specs.Option.{ok_or}
 use Rattle.history.specs.declared.refusal.Refusal.{Refusal}
 use Rattle.history.specs.declared.refusal.Refusal.TheVariants.{ItemNotServed, NoRoom}
-use Rattle.history.specs.Machine.{State, peek, commit, answered, done, refused, refusal, granted_answer, granted_state, refused_state, put_count, refuse_if, not_running, holdings, has_ended, by_refusal, ◌else◌, Steps}
+use Rattle.history.specs.Machine.{State, peek, commit, answered, done, refused, refusal, granted_answer, granted_state, refused_state, put_count, refuse_if, not_running, holdings, has_ended, by_refusal, ◌else◌, Steps, Peeks}
 use Rattle.store.specs.Stores.{at}
 use Rattle.scheduler.specs.Cores.{machine, Ends}
 use Rattle.scheduler.specs.declared.hub_core.Core.{Core}
 use Rattle.scheduler.specs.Reading.{state}
 use Rattle.scheduler.proofs.States.{steps_refused, steps_granted}
-use Rattle.hub.specs.Asking.{MayCommit, Shows}
+use Rattle.hub.specs.Asking.{MayCommit}
 use Rattle.hub.specs.Putting.{PutAll}
 
 no_value : {X : Type 0} (v : ℕ) → ◌≡◌ {A = Option ℕ} None (Some v) → X
@@ -38,21 +39,13 @@ module _ (s : State) (x : ℕ) where
   unfolding refusal granted_answer granted_state put_count
   peek_granted v h e = steps_granted s (peek x) s (answered v) (ap (λ b. refuse_if b ItemNotServed) (lt-leb _ x h)) (ap answered e) refl (λ _. refl) (omega arith)
 
+  pub peek_past : 64 ≤ x → Peeks s x (Err ItemNotServed) s
+  peek_past high = peek_refused (omega arith)
+
   -- by what the store answers
-  pub shown : (r : Option ℕ) → x < 64 → r ≡ at s.values x → Shows s x r
-  shown (Some v) low e = let told = at_some s.values x v e in peek_granted v (omega (arith, told.0)) told.1
-  shown None low e = let told = at_none s.values x e in peek_refused (omega arith)
-
-  pub not_shown : 64 ≤ x → Shows s x None
-  not_shown high = peek_refused (omega arith)
-
--- what the test of the room says
-module _ (r : Bool) (n room : ℕ) (e : r ≡ leb n room) where
-  pub has_room_for : r ≡ true → n ≤ room
-  has_room_for f = leb-true n room (sym e ∙ f)
-
-  pub has_too_little : r ≡ false → room < n
-  has_too_little f = leb-false n room (sym e ∙ f)
+  pub peek_told : (o : Option ℕ) (r : Result ℕ Refusal) → x < 64 → o ≡ at s.values x → r ≡ ok_or o ItemNotServed → Peeks s x r s
+  peek_told (Some v) r low e is = let told = at_some s.values x v e in subst (λ (z : Result ℕ Refusal). Peeks s x z s) (sym is) (peek_granted v (omega (arith, told.0)) told.1)
+  peek_told None r low e is = let told = at_none s.values x e in subst (λ (z : Result ℕ Refusal). Peeks s x z s) (sym is) (peek_refused (omega arith))
 
 module _ (s : State) (j : ℕ) where
   pub commit_stopped : (r : Refusal) → not_running (s.status j) ≡ Some r → Steps s (commit j) (refused r) s
@@ -80,7 +73,7 @@ module _ (s : State) (j : ℕ) where
     commit_granted t e takes keeps = steps_granted s (commit j) t done allowed refl e (λ z. keeps (sym puts ∙ z)) (let p = puts in omega arith)
 
 -- the end of a commit: what the job held is in the store
-pub commit_ends : {A : Type 0} (core core' : Core) (j : ℕ) (values values' : List ℕ) (room room' : ℕ) → MayCommit (machine core values room) j None → PutAll (machine core values room) j values' room' → (r : Result A Refusal) → Ends core j r core' → Steps (machine core values room) (commit j) done (machine core' values' room')
+pub commit_ends : {A : Type 0} (core core' : Core) (j : ℕ) (values values' : List ℕ) (room room' : ℕ) → MayCommit (machine core values room) j (Ok tt) → PutAll (machine core values room) j values' room' → (r : Result A Refusal) → Ends core j r core' → Steps (machine core values room) (commit j) done (machine core' values' room')
 unfolding state
 commit_ends core core' j values values' room room' may puts (Ok u) ends =
     let s = machine core values room in

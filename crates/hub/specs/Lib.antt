@@ -1,2 +1,4 @@
 pub mod Asking
 pub mod Putting
+pub mod Standing
+pub mod InMemory

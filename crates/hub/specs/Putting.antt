@@ -1,7 +1,9 @@
 -- What a commit does to the store: it has got what a job held, or is left alone. Rests on the machine.
 use Rattle.std.specs.Prelude.{◌≡◌, ℕ, ◌+◌, ◌≤◌, List, [], ◌∷◌, map, length, Ok, Err, Option, Result}
+use Rattle.trace.specs.declared.act.Act.{Act}
+use Rattle.trace.specs.declared.act.Act.TheVariants.{Open, Read, Write, Commit, Abort, Peek, Retire}
 use Rattle.history.specs.declared.holding.Holding.{Holding}
-use Rattle.history.specs.Machine.{State, those, rising, holds, held_value, holdings, put_all}
+use Rattle.history.specs.Machine.{State, held_value, holdings, put_all}
 
 -- the store has these values and this room after what job j held in the state s was put into it: each put
 -- took at most one of the room, and nothing else did
@@ -37,20 +39,13 @@ abbrev pub PutsIfGranted : {A E S : Type 0} → (S → ℕ → ℕ → S → Typ
 PutsIfGranted becomes s j (Ok _) before after = PutInTurn becomes before (held_pairs s j) after
 PutsIfGranted becomes s j (Err _) before after = Unit {0}
 
--- the items below n that job j holds, rising
-unfoldable pub held_below : (ℕ → Option Holding) → ℕ → ℕ → List ℕ
-held_below held j n = those (λ x. holds j (held x)) (rising 0 n)
-
--- on the way: of the first items, as many as are served, the store has got what job j holds of those below
--- n, in turn; there is room for all of it
-pub record OnTheWay {S : Type 0} (values : S → List ℕ) (room : S → ℕ) (becomes : S → ℕ → ℕ → S → Type 0) (held : ℕ → Option Holding) (j served n : ℕ) (before after : S) : Type 0 where
-  pub inside : served ≤ length (values before)
-  pub enough : length (held_below held j served) ≤ room before
-  pub put : values after ≡ put_all held (held_below held j n) (values before)
-  pub takes : room before ≤ room after + length (held_below held j n)
-  pub keeps : length (held_below held j n) ≡ 0 → room after ≡ room before
-  pub turns : PutInTurn becomes before (with_values held (held_below held j n)) after
-
--- the same, shut: a caller hands it on and needs nothing of what it says
-unfoldable pub PutBelow : {S : Type 0} → (S → List ℕ) → (S → ℕ) → (S → ℕ → ℕ → S → Type 0) → (ℕ → Option Holding) → ℕ → ℕ → ℕ → S → S → Type 0
-PutBelow values room becomes held j served n before after = OnTheWay values room becomes held j served n before after
+-- what the call of an act, made in the state s, does to the store: a commit puts what the job held where it
+-- is granted, and no other call touches it
+abbrev pub PutsFor : {A E S : Type 0} → (S → ℕ → ℕ → S → Type 0) → State → Act → Result A E → S → S → Type 0
+PutsFor becomes s (Open j) r before after = after ≡ before
+PutsFor becomes s (Read j x v) r before after = after ≡ before
+PutsFor becomes s (Write j x v) r before after = after ≡ before
+PutsFor becomes s (Commit j) r before after = LeavesIfRefused r before after × PutsIfGranted becomes s j r before after
+PutsFor becomes s (Abort j) r before after = after ≡ before
+PutsFor becomes s (Peek x v) r before after = after ≡ before
+PutsFor becomes s Retire r before after = after ≡ before

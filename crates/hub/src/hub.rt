@@ -1,15 +1,19 @@
 // The hub and its calls.
-ghost use Rattle.std.specs.Prelude.{◌≡◌, ℕ, min, List, None, nat_le};
+ghost use Rattle.std.specs.Prelude.{◌≡◌, ℕ, List, Ok};
 ghost use Rattle.history.specs.Machine.{made, Opens, Reads, Writes, Commits, Aborts, Retires, Peeks};
+ghost use Rattle.history.specs.Acting.{Takes};
 ghost use Rattle.history.specs.Promises.{EveryRunFrom};
 ghost use Rattle.scheduler.specs.Cores.{machine};
-ghost use Rattle.hub.specs.Asking.{MayCommit, Committed, Shows};
-ghost use Rattle.hub.specs.Putting.{LeavesIfRefused, PutsIfGranted, PutInTurn, held_pairs};
+ghost use Rattle.hub.specs.Asking.{MayCommit, Committed};
+ghost use Rattle.hub.specs.Standing.{machine_of};
+ghost use Rattle.hub.specs.Putting.{LeavesIfRefused, PutsIfGranted, PutsFor, PutInTurn, held_pairs};
 
 use super::putting::put_held;
+use history::answer::Answer;
 use history::refusal::Refusal;
 use scheduler::hub_core::Core;
 use store::Store;
+use trace::act::Act;
 
 // A scheduler with no jobs. Every run that begins with it is serializable, whatever the store is.
 fn idle(first: u32) -> Core
@@ -17,20 +21,6 @@ fn idle(first: u32) -> Core
     ensures serializable { (values : List ℕ) (room : ℕ) → EveryRunFrom (machine result values room) values }
 {
     Core::new(first)
-}
-
-// Whether so many puts have room in a store.
-fn has_room(room: u64, puts: usize) -> bool
-    ensures { result ≡ nat_le puts room }
-{
-    puts as u64 <= room
-}
-
-// How many items a hub serves of so many.
-fn served_of(items: usize) -> usize
-    ensures { result ≡ min 64 items }
-{
-    items.min(64)
 }
 
 // A hub runs jobs over the items of a store: it serves the first 64 of them, or all if these are fewer.
@@ -51,8 +41,8 @@ impl<S: Store> Hub<S> {
     // conflict exactly when it would close a cycle in the conflict graph of the whole run.
     pub fn new(store: S, first: u32) -> Hub<S>
         ensures store { result.store ≡ store }
-        ensures made { machine result.core (S.Store.values result.store) (S.Store.room result.store) ≡ made 32 first (S.Store.values store) (S.Store.room store) }
-        ensures serializable { EveryRunFrom (machine result.core (S.Store.values result.store) (S.Store.room result.store)) (S.Store.values store) }
+        ensures made { machine_of S.Store result ≡ made 32 first (S.Store.values store) (S.Store.room store) }
+        ensures serializable { EveryRunFrom (machine_of S.Store result) (S.Store.values store) }
     {
         Hub {
             store,
@@ -62,7 +52,7 @@ impl<S: Store> Hub<S> {
 
     // Opens a job and answers its number. Refused if every slot is taken, or if the last number was given out.
     pub fn open(&mut self) -> Result<u32, Refusal>
-        ensures opens { Opens (machine self.old.core (S.Store.values self.old.store) (S.Store.room self.old.store)) result (machine self.new.core (S.Store.values self.new.store) (S.Store.room self.new.store)) }
+        ensures opens { Opens (machine_of S.Store self.old) result (machine_of S.Store self.new) }
         ensures store { self.new.store ≡ self.old.store }
     {
         self.core.open()
@@ -72,7 +62,7 @@ impl<S: Store> Hub<S> {
     // the job runs, the item is served and no other job holds it; where the read would close a cycle the job
     // is aborted.
     pub fn read(&mut self, job: u32, item: u32) -> Result<u32, Refusal>
-        ensures reads { Reads (machine self.old.core (S.Store.values self.old.store) (S.Store.room self.old.store)) job item result (machine self.new.core (S.Store.values self.new.store) (S.Store.room self.new.store)) }
+        ensures reads { Reads (machine_of S.Store self.old) job item result (machine_of S.Store self.new) }
         ensures store { self.new.store ≡ self.old.store }
     {
         let items = self.store.items();
@@ -83,7 +73,7 @@ impl<S: Store> Hub<S> {
     // Writes a value to an item, which the job holds from now on: nobody else sees the value before the job
     // commits. Refused as a read is.
     pub fn write(&mut self, job: u32, item: u32, value: u32) -> Result<(), Refusal>
-        ensures writes { Writes (machine self.old.core (S.Store.values self.old.store) (S.Store.room self.old.store)) job item value result (machine self.new.core (S.Store.values self.new.store) (S.Store.room self.new.store)) }
+        ensures writes { Writes (machine_of S.Store self.old) job item value result (machine_of S.Store self.new) }
         ensures store { self.new.store ≡ self.old.store }
     {
         let items = self.store.items();
@@ -94,49 +84,41 @@ impl<S: Store> Hub<S> {
     // the store has room for every item that it holds; the job then runs on. A refusal leaves the store as
     // it was, down to the memory that it is made of; a grant puts these values and does nothing else to it.
     pub fn commit(&mut self, job: u32) -> Result<(), Refusal>
-        ensures commits { Commits (machine self.old.core (S.Store.values self.old.store) (S.Store.room self.old.store)) job result (machine self.new.core (S.Store.values self.new.store) (S.Store.room self.new.store)) }
+        ensures commits { Commits (machine_of S.Store self.old) job result (machine_of S.Store self.new) }
         ensures refused { LeavesIfRefused result self.old.store self.new.store }
-        ensures granted { PutsIfGranted S.Store.becomes (machine self.old.core (S.Store.values self.old.store) (S.Store.room self.old.store)) job result self.old.store self.new.store }
+        ensures granted { PutsIfGranted S.Store.becomes (machine_of S.Store self.old) job result self.old.store self.new.store }
     {
-        match self.commit_refusal(job) {
-            Some(refusal) => Err(refusal),
-            None => {
-                self.finish(job);
-                Ok(())
-            }
-        }
+        self.may_commit(job)?;
+        self.finish(job);
+        Ok(())
     }
 
-    // Why a commit of the job is refused, if it is.
-    fn commit_refusal(&self, job: u32) -> Option<Refusal>
-        ensures { MayCommit (machine self.now.core (S.Store.values self.now.store) (S.Store.room self.now.store)) job result }
+    // Whether a commit of the job may be made, or why it is refused.
+    fn may_commit(&self, job: u32) -> Result<(), Refusal>
+        ensures { MayCommit (machine_of S.Store self.now) job result }
     {
-        match self.core.count_held(self.store.items(), job) {
-            Ok(held) => {
-                if has_room(self.store.room(), held) {
-                    None
-                } else {
-                    Some(Refusal::NoRoom)
-                }
-            }
-            Err(refusal) => Some(refusal),
+        let held = self.core.count_held(self.store.items(), job)?;
+        if held as u64 <= self.store.room() {
+            Ok(())
+        } else {
+            Err(Refusal::NoRoom)
         }
     }
 
     // Puts what the job holds into the store and ends the job, whose commit is not refused.
     fn finish(&mut self, job: u32)
-        requires { MayCommit (machine self.old.core (S.Store.values self.old.store) (S.Store.room self.old.store)) job None }
-        ensures commits { Committed (machine self.old.core (S.Store.values self.old.store) (S.Store.room self.old.store)) job (machine self.new.core (S.Store.values self.new.store) (S.Store.room self.new.store)) }
-        ensures puts { PutInTurn S.Store.becomes self.old.store (held_pairs (machine self.old.core (S.Store.values self.old.store) (S.Store.room self.old.store)) job) self.new.store }
+        requires { MayCommit (machine_of S.Store self.old) job (Ok tt) }
+        ensures commits { Committed (machine_of S.Store self.old) job (machine_of S.Store self.new) }
+        ensures puts { PutInTurn S.Store.becomes self.old.store (held_pairs (machine_of S.Store self.old) job) self.new.store }
     {
-        let served = served_of(self.store.items());
+        let served = self.store.items().min(64);
         put_held(&mut self.store, &self.core, job, served);
         let _ = self.core.end(job);
     }
 
     // Aborts a job: everything that it did is gone. Refused unless the job runs.
     pub fn abort(&mut self, job: u32) -> Result<(), Refusal>
-        ensures aborts { Aborts (machine self.old.core (S.Store.values self.old.store) (S.Store.room self.old.store)) job result (machine self.new.core (S.Store.values self.new.store) (S.Store.room self.new.store)) }
+        ensures aborts { Aborts (machine_of S.Store self.old) job result (machine_of S.Store self.new) }
         ensures store { self.new.store ≡ self.old.store }
     {
         self.core.abort(job)
@@ -145,7 +127,7 @@ impl<S: Store> Hub<S> {
     // Retires committed jobs that no edge leads into, the smallest number first, until the list is full or
     // none is left. Writes their numbers to the front of the list and answers how many.
     pub fn retire(&mut self, list: &mut [u32]) -> usize
-        ensures retires { Retires (machine self.old.core (S.Store.values self.old.store) (S.Store.room self.old.store)) list.old result (machine self.new.core (S.Store.values self.new.store) (S.Store.room self.new.store)) list.new }
+        ensures retires { Retires (machine_of S.Store self.old) list.old result (machine_of S.Store self.new) list.new }
         ensures store { self.new.store ≡ self.old.store }
     {
         self.core.retire(list)
@@ -153,22 +135,29 @@ impl<S: Store> Hub<S> {
 
     // The store's value of an item, whoever holds it. Refused if the item is not served.
     pub fn peek(&self, item: u32) -> Result<u32, Refusal>
-        ensures { Peeks (machine self.now.core (S.Store.values self.now.store) (S.Store.room self.now.store)) item result (machine self.now.core (S.Store.values self.now.store) (S.Store.room self.now.store)) }
+        ensures { Peeks (machine_of S.Store self.now) item result (machine_of S.Store self.now) }
     {
-        match self.show(item) {
-            Some(value) => Ok(value),
-            None => Err(Refusal::ItemNotServed),
+        if item >= 64 {
+            return Err(Refusal::ItemNotServed);
         }
+        self.store.get(item).ok_or(Refusal::ItemNotServed)
     }
 
-    // The store's value of an item, if the item is served.
-    fn show(&self, item: u32) -> Option<u32>
-        ensures { Shows (machine self.now.core (S.Store.values self.now.store) (S.Store.room self.now.store)) item result }
+    // Makes the call of an act and answers what it tells. The hub gives the number of an opened job and the
+    // value that is read, whatever the act says of them. A retire is lent the list, which every other call
+    // leaves alone.
+    pub fn take(&mut self, act: Act, list: &mut [u32]) -> Result<Answer, Refusal>
+        ensures takes { Takes (machine_of S.Store self.old) act list.old result (machine_of S.Store self.new) list.new }
+        ensures store { PutsFor S.Store.becomes (machine_of S.Store self.old) act result self.old.store self.new.store }
     {
-        if item < 64 {
-            self.store.get(item)
-        } else {
-            None
+        match act {
+            Act::Open { .. } => self.open().map(Answer::Number),
+            Act::Read { job, item, .. } => self.read(job, item).map(Answer::Number),
+            Act::Write { job, item, value } => self.write(job, item, value).map(|_| Answer::Done),
+            Act::Commit { job } => self.commit(job).map(|_| Answer::Done),
+            Act::Abort { job } => self.abort(job).map(|_| Answer::Done),
+            Act::Peek { item, .. } => self.peek(item).map(Answer::Number),
+            Act::Retire => Ok(Answer::Count(self.retire(list))),
         }
     }
 

@@ -1,7 +1,9 @@
 // The lines of a rehearsal: what is told of each answer.
 ghost use Rattle.std.specs.Prelude.{◌≡◌, Some, None};
+ghost use Rattle.lines.specs.Outcomes.{outcome_of};
 ghost use Rattle.lines.specs.Texts.{answer_column, detail_column, answer_text, detail_text, columns_text, line_text, refusal_line};
 
+use history::answer::Answer;
 use history::refusal::Refusal;
 use std::fmt;
 use trace::fault::ReadRefusal;
@@ -21,6 +23,20 @@ pub enum Outcome {
     Refused(Refusal),
     // The trace itself was refused, and nothing of it was played.
     NotRead(ReadRefusal),
+}
+
+// A line tells what the hub answered.
+impl From<Result<Answer, Refusal>> for Outcome {
+    ghost from_gives = { λ answer outcome. outcome ≡ outcome_of answer };
+
+    fn from(answer: Result<Answer, Refusal>) -> Outcome {
+        match answer {
+            Ok(Answer::Number(number)) => Outcome::Number(number),
+            Ok(Answer::Done) => Outcome::Done,
+            Ok(Answer::Count(count)) => Outcome::Count(count),
+            Err(refusal) => Outcome::Refused(refusal),
+        }
+    }
 }
 
 // A line of a rehearsal: the line of the trace that it belongs to, and what it tells.

@@ -1,2 +1,1 @@
 mod Playing
-mod Telling

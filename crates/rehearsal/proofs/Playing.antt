@@ -1,78 +1,54 @@
 -- Steps played one after another.
-use Rattle.std.proofs.Common.{◌≡◌, ℕ, ◌+◌, ◌<◌, ◌≤◌, List, [], ◌∷◌, ◌++◌, length, get_or, drop, sym, refl, ap, ◌∙◌, subst}
-use Rattle.std.proofs.lemmas.List.{append_assoc, append-nil, drop_more, drop_all}
+use Rattle.std.proofs.Common.{◌≡◌, ℕ, ◌+◌, ◌<◌, List, [], ◌∷◌, ◌++◌, length, get_or, drop, refl, ap, ◌∙◌, subst}
+use Rattle.std.proofs.lemmas.List.{append_assoc, drop_more}
 use Rattle.trace.specs.declared.act.Act.TheVariants.{Open}
 use Rattle.trace.specs.declared.act.Step.{Step}
-use Rattle.history.specs.Machine.{State, made, Call, Answer, answer, after_call, Steps}
-use Rattle.history.specs.Runs.{Turn, Runs}
+use Rattle.history.specs.Machine.{State, made, Call, Answer, answer, after_call}
+use Rattle.history.specs.Runs.{Turn}
+use Rattle.history.specs.Acting.{call_of, run_from}
 use Rattle.history.specs.Promises.{EveryRunFrom}
-use Rattle.history.proofs.Joining.{runs_more}
+use Rattle.history.proofs.Acting.{Going, going_turn}
+use Rattle.hub.specs.InMemory.{plenty, start}
 use Rattle.lines.specs.declared.line.Line.{Line}
-use Rattle.rehearsal.specs.Playing.{call_of, calls_of, answer_lines, lines_of, plenty, run_from, called, start, run_of, Answered, Played, RehearsedOn}
+use Rattle.rehearsal.specs.Playing.{calls_of, answer_lines, lines_of, called, run_of, Answered, Played, RehearsedOn}
 
-pub called_run : (s : State) (cs : List Call) → called (run_from s cs) ≡ cs
+pub called_run : (s : State) (cs : List Call) → called (run_from plenty s cs) ≡ cs
 called_run s [] = refl
 called_run s (c ∷ cs) = ap (λ (z : List Call). c ∷ z) (called_run (after_call s c plenty) cs)
 
 -- so far, the hub has come to the state h, the steps in rest are left, and the lines are these
-pub record Going (s : State) (steps : List Step) (before : List Line) (h : State) (rest : List Step) (lines : List Line) : Type 0 where
+pub record Telling (s : State) (steps : List Step) (before : List Line) (h : State) (rest : List Step) (lines : List Line) : Type 0 where
   pub made : List Turn
-  pub runs : Runs s made h
-  pub left : made ++ run_from h (calls_of rest) ≡ run_from s (calls_of steps)
-  pub told : lines ++ lines_of rest (run_from h (calls_of rest)) ≡ before ++ lines_of steps (run_from s (calls_of steps))
+  pub going : Going plenty s (calls_of steps) made h (calls_of rest)
+  pub told : lines ++ lines_of rest (run_from plenty h (calls_of rest)) ≡ before ++ lines_of steps (run_from plenty s (calls_of steps))
 
-pub going_start : (s : State) (steps : List Step) (before : List Line) → Going s steps before s steps before
-going_start s steps before = record { made = []; runs = refl; left = refl; told = refl }
+module _ (s : State) (steps : List Step) (before : List Line) (h : State) where
+  telling_turn : (t : State) (step : Step) (rest : List Step) (lines lines' : List Line)
+      → t.room ≡ plenty → Answered h step lines t lines'
+      → Telling s steps before h (step ∷ rest) lines → Telling s steps before t rest lines'
+  telling_turn t step rest lines lines' e q so_far =
+      let c = call_of 32 step.act in
+      let next : t ≡ after_call h c plenty = q.steps.becomes ∙ ap (after_call h c) e in
+      let said : lines' ≡ lines ++ answer_lines step.line (answer h c) =
+      q.lines ∙ ap (λ (a : Answer). lines ++ answer_lines step.line a) q.steps.answers in
+      record {
+        made = so_far.made ++ record { call = c; answer = answer h c } ∷ [];
+        going = going_turn c (calls_of rest) q.told t e q.steps so_far.going;
+        told =
+            ap (λ (z : List Line). z ++ lines_of rest (run_from plenty t (calls_of rest))) said
+            ∙ append_assoc lines (answer_lines step.line (answer h c)) (lines_of rest (run_from plenty t (calls_of rest)))
+            ∙ ap (λ (z : State). lines ++ (answer_lines step.line (answer h c) ++ lines_of rest (run_from plenty z (calls_of rest)))) next
+            ∙ so_far.told;
+      }
 
-next_state : (h t : State) (c : Call) (a : Answer) → Steps h c a t → t.room ≡ plenty → t ≡ after_call h c plenty
-next_state h t c a q e = q.becomes ∙ ap (after_call h c) e
-
-pub going_turn : (s : State) (steps : List Step) (before : List Line) (h t : State) (step : Step) (rest : List Step) (lines lines' : List Line)
-    → t.room ≡ plenty → Answered h step lines t lines'
-    → Going s steps before h (step ∷ rest) lines → Going s steps before t rest lines'
-going_turn s steps before h t step rest lines lines' e q go =
-    let c = call_of step.act in
-    let u : Turn = record { call = c; answer = answer h c } in
-    let moved : run_from (after_call h c plenty) (calls_of rest) ≡ run_from t (calls_of rest) =
-    ap (λ (z : State). run_from z (calls_of rest)) (sym (next_state h t c q.told q.steps e)) in
-    let said : lines' ≡ lines ++ answer_lines step.line (answer h c) =
-    q.lines ∙ ap (λ (a : Answer). lines ++ answer_lines step.line a) q.steps.answers in
-    record {
-      made = go.made ++ u ∷ [];
-      runs = runs_more go.made s h t u go.runs (subst (λ (a : Answer). Steps h c a t) q.steps.answers q.steps);
-      left =
-          append_assoc go.made (u ∷ []) (run_from t (calls_of rest))
-          ∙ ap (λ (z : List Turn). go.made ++ (u ∷ z)) (sym moved)
-          ∙ go.left;
-      told =
-          ap (λ (z : List Line). z ++ lines_of rest (run_from t (calls_of rest))) said
-          ∙ append_assoc lines (answer_lines step.line (answer h c)) (lines_of rest (run_from t (calls_of rest)))
-          ∙ ap (λ (z : List Turn). lines ++ (answer_lines step.line (answer h c) ++ lines_of rest z)) (sym moved)
-          ∙ go.told;
-    }
-
-pub going_end : (s : State) (steps : List Step) (before : List Line) (h : State) (lines : List Line)
-    → Going s steps before h [] lines → Played s steps before h lines
-going_end s steps before h lines go =
-    record {
-      runs = subst (λ (z : List Turn). Runs s z h) (sym (append-nil go.made) ∙ go.left) go.runs;
-      lines = sym (append-nil lines) ∙ go.told;
-    }
-
--- the same at the i-th step of the list
-pub going_more : (s : State) (steps : List Step) (before : List Line) (h t : State) (i : ℕ) (lines lines' : List Line)
-    → i < length steps → t.room ≡ plenty
-    → Answered h (get_or steps i (record { line = 0; act = Open 0 })) lines t lines'
-    → Going s steps before h (drop i steps) lines → Going s steps before t (drop (i + 1) steps) lines'
-going_more s steps before h t i lines lines' l e q go =
-    let step = get_or steps i (record { line = 0; act = Open 0 }) in
-    going_turn s steps before h t step (drop (i + 1) steps) lines lines' e q
-    (subst (λ (z : List Step). Going s steps before h z lines) (drop_more steps i (record { line = 0; act = Open 0 }) l) go)
-
-pub going_all : (s : State) (steps : List Step) (before : List Line) (h : State) (i : ℕ) (lines : List Line)
-    → length steps ≤ i → Going s steps before h (drop i steps) lines → Played s steps before h lines
-going_all s steps before h i lines l go =
-    going_end s steps before h lines (subst (λ (z : List Step). Going s steps before h z lines) (drop_all i steps l) go)
+  -- the same at the i-th step of the list
+  pub telling_more : (t : State) (i : ℕ) (lines lines' : List Line) → i < length steps → t.room ≡ plenty
+      → Answered h (get_or steps i (record { line = 0; act = Open 0 })) lines t lines'
+      → Telling s steps before h (drop i steps) lines → Telling s steps before t (drop (i + 1) steps) lines'
+  telling_more t i lines lines' l e q so_far =
+      let step = get_or steps i (record { line = 0; act = Open 0 }) in
+      telling_turn t step (drop (i + 1) steps) lines lines' e q
+      (subst (λ (z : List Step). Telling s steps before h z lines) (drop_more steps i (record { line = 0; act = Open 0 }) l) so_far)
 
 -- a hub that was just made, with what it promises of every run, and the steps played on it
 pub rehearsed : (s t : State) (first room : ℕ) (values opening : List ℕ) (steps : List Step) (before lines : List Line)

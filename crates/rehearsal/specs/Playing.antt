@@ -1,33 +1,22 @@
 -- A trace played on a hub: the calls of its steps, the run that they make, and the lines that tell it.
 -- Rests on the machine, and on the promises of every run.
-use Rattle.std.specs.Prelude.{◌≡◌, ℕ, List, [], ◌∷◌, ◌++◌, length, replicate, Some, None, Option}
-use Rattle.trace.specs.declared.act.Act.{Act}
-use Rattle.trace.specs.declared.act.Act.TheVariants.{Open, Read, Write, Commit, Abort, Peek, Retire}
+use Rattle.std.specs.Prelude.{◌≡◌, ℕ, List, [], ◌∷◌, ◌++◌, length, map, Some, None, Option}
 use Rattle.trace.specs.declared.act.Step.{Step}
 use Rattle.trace.specs.declared.fault.ReadRefusal.{ReadRefusal}
 use Rattle.console.specs.Inputs.{read as read_input, steps_of}
-use Rattle.history.specs.Machine.{State, made, Call, begin, read, write, commit, abort, retire, peek, Answer, answered, done, wrote, refused, answer, after_call, Steps}
+use Rattle.history.specs.Machine.{State, Call, Answer, answered, done, wrote, refused, Steps}
+use Rattle.history.specs.Acting.{call_of, run_from}
 use Rattle.history.specs.Runs.{Turn, Runs, acts_of, retired_by, retired_of}
 use Rattle.history.specs.Promises.{Serializable}
+use Rattle.hub.specs.InMemory.{plenty, zeros, start}
 use Rattle.lines.specs.declared.line.Outcome.{Outcome}
 use Rattle.lines.specs.declared.line.Outcome.TheVariants.{Number, Done, Count, Retired, Refused}
 use Rattle.lines.specs.declared.line.Line.{Line}
 use Rattle.lines.specs.Texts.{refusal_line}
 
--- the call of an act: the hub gives the job's number and the value read, and a retire is lent 32 places
-abbrev pub call_of : Act → Call
-call_of (Open j) = begin
-call_of (Read j x v) = read j x
-call_of (Write j x v) = write j x v
-call_of (Commit j) = commit j
-call_of (Abort j) = abort j
-call_of (Peek x v) = peek x
-call_of Retire = retire 32
-
--- the calls of the steps, in their order
+-- the calls of the steps, in their order: a retire is lent 32 places
 abbrev pub calls_of : List Step → List Call
-calls_of [] = []
-calls_of (step ∷ steps) = call_of step.act ∷ calls_of steps
+calls_of steps = map (λ step. call_of 32 step.act) steps
 
 -- what a line tells of an answer
 abbrev pub outcome : Answer → Outcome
@@ -38,8 +27,7 @@ outcome (refused r) = Refused r
 
 -- a line for each retired number
 abbrev pub retired_lines : ℕ → List ℕ → List Line
-retired_lines n [] = []
-retired_lines n (j ∷ js) = record { number = n; outcome = Retired j } ∷ retired_lines n js
+retired_lines n js = map (λ j. record { number = n; outcome = Retired j }) js
 
 -- the line of an answer, and below it those of the numbers that it wrote
 abbrev pub answer_lines : ℕ → Answer → List Line
@@ -51,37 +39,20 @@ lines_of [] run = []
 lines_of (step ∷ steps) [] = []
 lines_of (step ∷ steps) (turn ∷ run) = answer_lines step.line turn.answer ++ lines_of steps run
 
--- the room of a store in memory, which no put takes from
-abbrev pub plenty : ℕ
-plenty = 4294967295
-
--- the run of some calls, each with the machine's answer, from the state s on
-abbrev pub run_from : State → List Call → List Turn
-run_from s [] = []
-run_from s (c ∷ cs) = record { call = c; answer = answer s c } ∷ run_from (after_call s c plenty) cs
-
--- the contents of the store in which a rehearsal begins
-abbrev pub zeros : List ℕ
-zeros = replicate 64 0
-
--- a hub in memory on which steps are played: 32 slots, no job, the number of the first, and what the store holds
-abbrev pub start : ℕ → List ℕ → State
-start first opening = made 32 first opening plenty
-
 -- the run that the steps make on it
 abbrev pub run_of : ℕ → List ℕ → List Step → List Turn
-run_of first opening steps = run_from (start first opening) (calls_of steps)
+run_of first opening steps = run_from plenty (start first opening) (calls_of steps)
 
 -- the step, played in the state s, has led to the state t, and its lines stand behind those before
 pub record Answered (s : State) (step : Step) (before : List Line) (t : State) (after : List Line) : Type 0 where
   pub told : Answer
-  pub steps : Steps s (call_of step.act) told t
+  pub steps : Steps s (call_of 32 step.act) told t
   pub lines : after ≡ before ++ answer_lines step.line told
 
 -- the same of a list of steps
 pub record Played (s : State) (steps : List Step) (before : List Line) (t : State) (after : List Line) : Type 0 where
-  pub runs : Runs s (run_from s (calls_of steps)) t
-  pub lines : after ≡ before ++ lines_of steps (run_from s (calls_of steps))
+  pub runs : Runs s (run_from plenty s (calls_of steps)) t
+  pub lines : after ≡ before ++ lines_of steps (run_from plenty s (calls_of steps))
 
 -- the calls of a run
 abbrev pub called : List Turn → List Call

@@ -1,7 +1,6 @@
 // All steps of a list, played on a hub.
 ghost use Rattle.std.specs.Prelude.{◌≡◌, IfOk, OnOk};
-ghost use Rattle.scheduler.specs.Cores.{machine};
-ghost use Rattle.store.specs.Memories.{memory_values, memory_room};
+ghost use Rattle.hub.specs.InMemory.{in_memory};
 ghost use Rattle.rehearsal.specs.Playing.{Played, RehearsedOn, Rehearsed, RehearsedInput};
 
 use crate::turn::take_turn;
@@ -14,7 +13,7 @@ use trace::act::Step;
 
 // Plays the steps on a hub, one after another, and adds their lines.
 fn play(hub: &mut Hub<MemoryStore>, steps: &[Step], lines: &mut Vec<Line>) -> Result<(), AllocError>
-    ensures { OnOk result (Played (machine hub.old.core (memory_values hub.old.store) (memory_room hub.old.store)) steps.now lines.old.items (machine hub.new.core (memory_values hub.new.store) (memory_room hub.new.store)) lines.new.items) }
+    ensures { OnOk result (Played (in_memory hub.old) steps.now lines.old.items (in_memory hub.new) lines.new.items) }
 {
     for step in steps {
         take_turn(hub, step, lines)?;

@@ -1,14 +1,8 @@
 use Rattle.std.proofs.Common.{refl, arith}
 use Rattle.scheduler.specs.Reading.{state}
-use Rattle.rehearsal.proofs.Playing.{going_start, going_more, going_all}
+use Rattle.rehearsal.proofs.Playing.{telling_more}
 use Rattle.rehearsal.proofs.play.play.Goals as goal
-
-pub loop-step-init : goal.loop-step-init
-loop-step-init c = going_start _ _ _
 
 pub loop-step-preserved : goal.loop-step-preserved
 unfolding state
-loop-step-preserved c = going_more _ c.args.steps.now _ _ _ c.loop-step.step-index _ _ (omega arith) refl c.in_ok-take_turn.ensures c.loop-step.invariant
-
-pub returns : goal.returns
-returns c = going_all _ c.args.steps.now _ _ c.loop-step.step-index _ (omega arith) c.loop-step.invariant
+loop-step-preserved c = telling_more _ c.args.steps.now _ _ _ c.loop-step.step-index _ _ (omega arith) refl c.in_ok-take_turn.ensures c.loop-step.invariant

@@ -1,9 +1,12 @@
-use Rattle.std.proofs.Common.{arith}
-use Rattle.rehearsal.proofs.Telling.{told_more, told_all}
+use Rattle.std.proofs.Common.{refl, rules}
+use Rattle.std.proofs.lemmas.Result.{on_ok_weaker}
+use Rattle.std.proofs.lemmas.Iterator.{YieldsList-from_slice, YieldsList-from_map}
+use Rattle.std.proofs.lemmas.Iterator.Adapters.{items_from_extend}
+use Rattle.lines.specs.declared.line.Outcome.TheVariants.{Retired}
 use Rattle.rehearsal.proofs.turn.tell_retired.Goals as goal
 
-pub loop-job-preserved : goal.loop-job-preserved
-loop-job-preserved c = told_more _ _ _ c.args.number c.loop-job.job-index c.args.jobs.now (omega arith) c.in_ok-tell.ensures c.loop-job.invariant
-
 pub returns : goal.returns
-returns c = told_all _ _ c.args.number c.loop-job.job-index c.args.jobs.now (omega arith) c.loop-job.invariant
+returns c =
+    on_ok_weaker c.extend.result (λ told. told.0)
+    (items_from_extend c.extend.result c.extend.ensures.ran
+    (YieldsList-from_map _ (λ j. record { number = c.args.number; outcome = Retired j }) (YieldsList-from_slice c.args.jobs.now cc) refl (λ x r q k. search rules)))

@@ -1,6 +1,6 @@
 use Rattle.std.proofs.Common.{arith}
 use Rattle.entry.proofs.Turns.{plays_all, asked_front}
-use Rattle.entry.proofs.playing.play_anew.Goals as goal
+use Rattle.entry.proofs.playing.sathkeif_play.Goals as goal
 
 pub returns : goal.returns
 returns c =
