@@ -1,5 +1,4 @@
 use Rattle.std.proofs.Common.{arith, below_more}
-use Rattle.graph.specs.Lists.{listed}
 use Rattle.graph.specs.Paths.{Path}
 use Rattle.graph.proofs.Parts.{PartEdges, part_cycle, part_no_cycle}
 use Rattle.graph.proofs.cycle.find_cycle.Goals as goal
@@ -8,8 +7,7 @@ pub returns-in-Some : goal.returns-in-Some
 returns-in-Some g c =
     let graph = c.args.graph.now in
     let f = c.in-Some.ensures in
-    let s = part_cycle (g.G.Graph.size graph) c.args.set (g.G.Graph.leads graph) c.loop-node.node (listed c.in-Some.cycle) f.0 f.1 in
-    (s.0, s.1, f.2, f.3)
+    part_cycle (g.G.Graph.size graph) c.args.set (g.G.Graph.leads graph) c.loop-node.node c.in-Some.cycle.items f.0 f.1
 
 pub loop-node-preserved : goal.loop-node-preserved
 loop-node-preserved g c =
