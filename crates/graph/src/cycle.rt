@@ -47,10 +47,5 @@ pub fn find_cycle<G: Graph>(graph: &G, set: NodeSet) -> Option<NodeList>
     ensures { FindsCycle (Within set (edges_of G.Graph graph.now)) result }
 {
     let part = Part { graph, nodes: set };
-    for node in 0..graph.size() {
-        if let Some(cycle) = find_path(&part, node, node) {
-            return Some(cycle);
-        }
-    }
-    None
+    (0..graph.size()).find_map(|node| find_path(&part, node, node))
 }
