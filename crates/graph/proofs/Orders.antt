@@ -1,7 +1,7 @@
 -- Orders: the search for the first free node, and what holds of an order that is made of such nodes.
-use Rattle.std.proofs.Common.{◌≡◌, ℕ, ◌+◌, ◌<◌, ◌≤◌, true, false, not, T, eqb, ◌⊎◌, List, [], ◌∷◌, ◌++◌, length, take, set, Some, None, Option, sym, refl, ap, subst, inl, inr, ⊎_elim, arith, T_not}
+use Rattle.std.proofs.Common.{◌≡◌, ℕ, ◌+◌, ◌<◌, ◌≤◌, true, false, not, T, eqb, ◌⊎◌, List, [], ◌∷◌, ◌++◌, length, Some, None, Option, sym, refl, ap, subst, inl, inr, ⊎_elim, arith, T_not}
 use mathlib.Core.Path.{fun_ext}
-use Rattle.std.proofs.lemmas.List.{length_push, length-take-le, take_more_set}
+use Rattle.std.proofs.lemmas.List.{length_push}
 use Rattle.graph.proofs.Lists.{distinct_few}
 use Rattle.std.proofs.lemmas.Bool.{cases_eq, eq-eqb, ne_eqb, ltb-true, ltb-false, true≢false}
 use Rattle.graph.proofs.Parts.{T-both, T-parts}

@@ -1,4 +1,4 @@
-use Rattle.std.proofs.Common.{rules, ap, ◌∙◌}
+use Rattle.std.proofs.Common.{rules}
 use Rattle.graph.specs.Outcomes.{Finds}
 use Rattle.graph.proofs.Parts.{PartEdges, part_finds}
 use Rattle.graph.proofs.Ranges.{found_below}

@@ -1,4 +1,4 @@
-use Rattle.std.proofs.Common.{◌<◌, T, get_or, sym, refl, ◌∙◌, subst, arith}
+use Rattle.std.proofs.Common.{◌<◌, T, sym, refl, ◌∙◌, subst, arith}
 use Rattle.graph.specs.Graphs.{edges_of}
 use Rattle.graph.proofs.Search.{Ended, at_found, counted, room, searched_none, searching_none, searching_skip, searching_noted, searched_more, ended_all, ended_found, ended_at, ended_none, way_shown, shows_finds}
 use Rattle.graph.proofs.path.search.Goals as goal

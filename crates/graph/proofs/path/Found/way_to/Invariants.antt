@@ -1,4 +1,4 @@
-use Rattle.std.proofs.Common.{◌≡◌, ℕ, ◌+◌, ◌-◌, ◌<◌, [], length, reverse}
+use Rattle.std.proofs.Common.{◌≡◌, ◌+◌, ◌-◌, ◌<◌, [], length, reverse}
 use Rattle.graph.specs.Search.{depth_of, way_before}
 use Rattle.graph.proofs.path.Found.way_to.Given as goal
 
