@@ -2,6 +2,7 @@ pub mod Lists
 pub mod Orders
 pub mod Parts
 pub mod Paths
+pub mod Ranges
 pub mod Reach
 pub mod Search
 pub mod Stuck

@@ -1,5 +1,5 @@
 -- Members of a list of nodes: one more at the end, and how many distinct ones there can be.
-use Rattle.std.proofs.Common.{◌≡◌, ℕ, zero, suc, ◌<◌, ◌≤◌, cond, eqb, ◌⊎◌, List, [], ◌∷◌, ◌++◌, length, get_or, take, replicate, sym, refl, ap, subst, inl, inr, ⊎_elim, arith}
+use Rattle.std.proofs.Common.{◌≡◌, ℕ, zero, suc, ◌<◌, ◌≤◌, cond, eqb, ◌⊎◌, List, [], ◌∷◌, ◌++◌, length, get_or, replicate, sym, refl, ap, subst, inl, inr, ⊎_elim, arith}
 use Rattle.std.proofs.lemmas.Bool.{cond_both, eqb-true, eqb-false}
 use Rattle.graph.specs.Paths.{◌∈◌, Distinct}
 
@@ -69,34 +69,25 @@ distinct_few (suc n) xs d b =
     let ne : a ≡ n → ⊥ = λ e. strike_gone n xs d (subst (λ y. y ∈ strike n xs) e i) in omega arith in
     omega (arith, strike_length n xs, distinct_few n (strike n xs) (strike_distinct n xs d) below)
 
--- what stands in the front of a list is a member of the front
-pub in_front : (xs : List ℕ) (count k : ℕ) → k < count → k < length xs → get_or xs k 0 ∈ take count xs
-in_front [] count k l m = absurd (omega arith)
-in_front (x ∷ xs) zero k l m = absurd (omega arith)
-in_front (x ∷ xs) (suc count) zero l m = inl refl
-in_front (x ∷ xs) (suc count) (suc k) l m = inr (in_front xs count k (omega arith) (omega arith))
+-- what stands at a place of a list is a member of it
+pub in_at : (xs : List ℕ) (k : ℕ) → k < length xs → get_or xs k 0 ∈ xs
+in_at [] k l = absurd (omega arith)
+in_at (x ∷ xs) zero l = inl refl
+in_at (x ∷ xs) (suc k) l = inr (in_at xs k (omega arith))
 
--- a member of the front of a list stands somewhere in it
-pub place_in_front : (xs : List ℕ) (count a : ℕ) → a ∈ take count xs → (k : ℕ) × (k < count) × (get_or xs k 0 ≡ a)
-place_in_front [] zero a h = absurd h
-place_in_front [] (suc count) a h = absurd h
-place_in_front (x ∷ xs) zero a h = absurd h
-place_in_front (x ∷ xs) (suc count) a (inl e) = (zero, omega arith, sym e)
-place_in_front (x ∷ xs) (suc count) a (inr h) =
-    let p = place_in_front xs count a h in (suc p.0, omega (arith, p.1), p.2)
+-- a member of a list stands at some place of it
+pub place_of : (xs : List ℕ) (a : ℕ) → a ∈ xs → (k : ℕ) × (k < length xs) × (get_or xs k 0 ≡ a)
+place_of [] a h = absurd h
+place_of (x ∷ xs) a (inl e) = (zero, omega arith, sym e)
+place_of (x ∷ xs) a (inr h) = let p = place_of xs a h in (suc p.0, omega (arith, p.1), p.2)
 
--- in a front without repetition a number stands at one place
-pub one_place : (xs : List ℕ) (count p q : ℕ) → Distinct (take count xs) → p < count → q < count → count ≤ length xs
-    → get_or xs p 0 ≡ get_or xs q 0 → p ≡ q
-one_place [] count p q d l m b e = absurd (omega arith)
-one_place (x ∷ xs) zero p q d l m b e = absurd (omega arith)
-one_place (x ∷ xs) (suc count) zero zero d l m b e = refl
-one_place (x ∷ xs) (suc count) zero (suc q) d l m b e =
-    absurd (d.0 (subst (λ n. n ∈ take count xs) (sym e) (in_front xs count q (omega arith) (omega arith))))
-one_place (x ∷ xs) (suc count) (suc p) zero d l m b e =
-    absurd (d.0 (subst (λ n. n ∈ take count xs) e (in_front xs count p (omega arith) (omega arith))))
-one_place (x ∷ xs) (suc count) (suc p) (suc q) d l m b e =
-    ap suc (one_place xs count p q d.1 (omega arith) (omega arith) (omega arith) e)
+-- in a list without repetition a number stands at one place
+pub one_place : (xs : List ℕ) (p q : ℕ) → Distinct xs → p < length xs → q < length xs → get_or xs p 0 ≡ get_or xs q 0 → p ≡ q
+one_place [] p q d l m e = absurd (omega arith)
+one_place (x ∷ xs) zero zero d l m e = refl
+one_place (x ∷ xs) zero (suc q) d l m e = absurd (d.0 (subst (λ n. n ∈ xs) (sym e) (in_at xs q (omega arith))))
+one_place (x ∷ xs) (suc p) zero d l m e = absurd (d.0 (subst (λ n. n ∈ xs) e (in_at xs p (omega arith))))
+one_place (x ∷ xs) (suc p) (suc q) d l m e = ap suc (one_place xs p q d.1 (omega arith) (omega arith) e)
 
 -- a list of zeros has zero at every place
 pub zeros : (k n : ℕ) → ◌≡◌ {A = ℕ} (get_or (replicate k 0) n 0) 0

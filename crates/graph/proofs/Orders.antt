@@ -1,7 +1,7 @@
 -- Orders: the search for the first free node, and what holds of an order that is made of such nodes.
-use Rattle.std.proofs.Common.{◌≡◌, ℕ, ◌+◌, ◌<◌, ◌≤◌, true, false, not, T, eqb, ◌⊎◌, List, [], ◌∷◌, ◌++◌, length, take, set, Some, None, Option, sym, refl, ap, subst, inl, inr, ⊎_elim, arith, T_not}
+use Rattle.std.proofs.Common.{◌≡◌, ℕ, ◌+◌, ◌<◌, ◌≤◌, true, false, not, T, eqb, ◌⊎◌, List, [], ◌∷◌, ◌++◌, length, Some, None, Option, sym, refl, ap, subst, inl, inr, ⊎_elim, arith, T_not}
 use mathlib.Core.Path.{fun_ext}
-use Rattle.std.proofs.lemmas.List.{length_push, length-take-le, take_more_set}
+use Rattle.std.proofs.lemmas.List.{length_push}
 use Rattle.graph.proofs.Lists.{distinct_few}
 use Rattle.std.proofs.lemmas.Bool.{cases_eq, eq-eqb, ne_eqb, ltb-true, ltb-false, true≢false}
 use Rattle.graph.proofs.Parts.{T-both, T-parts}
@@ -119,7 +119,7 @@ module _ (E : Relation) (size : ℕ) (keys : List ℕ) where
       ((λ i. (but_parts left x x (placed_only (but left x) ns rest p.1 x i).1).1 refl), placed_distinct (but left x) ns rest p.1)
 
   -- where one more node can be placed, fewer are placed than the graph has
-  placed_room : (left : Test) (ns : List ℕ) (rest : Test) (n : ℕ) → Placed left ns rest → First E size keys rest rest n
+  pub placed_room : (left : Test) (ns : List ℕ) (rest : Test) (n : ℕ) → Placed left ns rest → First E size keys rest rest n
       → length ns < size
   placed_room left ns rest n p f =
       let q = placed_more left ns rest n p f in
@@ -129,17 +129,11 @@ module _ (E : Relation) (size : ℕ) (keys : List ℕ) where
         distinct_few size (ns ++ n ∷ []) (placed_distinct left (ns ++ n ∷ []) (but rest n) q) (λ m i. (placed_only left (ns ++ n ∷ []) (but rest n) q m i).0),
       )
 
-  pub placed_space : (left : Test) (xs : List ℕ) (count : ℕ) (rest : Test) (n : ℕ) → Placed left (take count xs) rest
-      → First E size keys rest rest n → count ≤ length xs → count < size
-  placed_space left xs count rest n p f l = omega (arith, placed_room left (take count xs) rest n p f, length-take-le count xs l)
-
-  -- the step of a loop that places a node in an array
-  pub placed_next : (left : Test) (xs : List ℕ) (count : ℕ) (rest rest' : Test) (n : ℕ) → Placed left (take count xs) rest
-      → First E size keys rest rest n → count < length xs → ((k : ℕ) → rest' k ≡ but rest n k)
-      → Placed left (take (count + 1) (set xs count n)) rest'
-  placed_next left xs count rest rest' n p f l same =
-      subst (λ ns. Placed left ns rest') (sym (take_more_set xs count n l))
-      (subst (Placed left (take count xs ++ n ∷ [])) (sym (fun_ext same)) (placed_more left (take count xs) rest n p f))
+  -- the step of a loop that places one more node
+  pub placed_next : (left : Test) (ns : List ℕ) (rest rest' : Test) (n : ℕ) → Placed left ns rest
+      → First E size keys rest rest n → ((k : ℕ) → rest' k ≡ but rest n k) → Placed left (ns ++ n ∷ []) rest'
+  placed_next left ns rest rest' n p f same =
+      subst (Placed left (ns ++ n ∷ [])) (sym (fun_ext same)) (placed_more left ns rest n p f)
 
   pub ordered_only : (left : Test) (ns : List ℕ) → Ordered E size keys left ns → (n : ℕ) → n ∈ ns → (n < size) × T (left n)
   ordered_only left [] o n i = absurd i

@@ -1,7 +1,9 @@
 -- The part of a graph between the nodes of a set: its edges are those within the set.
-use Rattle.std.proofs.Common.{ℕ, ◌<◌, ◌≤◌, Bool, true, false, ◌&&◌, T, List, [], ◌∷◌, ◌++◌, sym, subst, arith}
+use Rattle.std.proofs.Common.{ℕ, ◌<◌, ◌≤◌, Bool, true, false, ◌&&◌, T, List, [], ◌∷◌, ◌++◌, Option, Some, None, MatchOption, sym, subst, arith}
+use Rattle.arrayvec.specs.ArrayVec.{ArrayVec}
 use Rattle.graph.specs.Edges.{Edges, Within}
 use Rattle.graph.specs.Nodes.{has}
+use Rattle.graph.specs.Outcomes.{Finds, FindsCycle}
 use Rattle.graph.specs.Paths.{Relation, Path, edge, ◌then◌, Cycle, Linked, ShowsPath, ShowsCycle}
 use Rattle.graph.proofs.Paths.{path_map, linked_map}
 
@@ -29,7 +31,7 @@ module _ (size set : ℕ) (leads : ℕ → ℕ → Bool) where
       (e.2.0, e.2.1, T-both (has set j) (has set i && leads i j) e.1 (T-both (has set i) (leads i j) e.0 e.2.2))
 
   -- a path of the part from a node to itself shows a cycle within the set
-  pub part_cycle : (n : ℕ) (ns : List ℕ) → Path PartEdges n n → ShowsPath PartEdges n n ns
+  part_cycle : (n : ℕ) (ns : List ℕ) → Path PartEdges n n → ShowsPath PartEdges n n ns
       → Cycle (Within set (Edges size leads)) × ShowsCycle (Within set (Edges size leads)) ns
   part_cycle n [] p s = absurd s
   part_cycle n (m ∷ ns) p s = (
@@ -42,5 +44,11 @@ module _ (size set : ℕ) (leads : ℕ → ℕ → Bool) where
   starts_inside (e then p) = e.2.0
 
   -- where no node of the graph has a path of the part to itself, there is no cycle within the set
-  pub part_no_cycle : (n : ℕ) → size ≤ n → ((k : ℕ) → k < n → Path PartEdges k k → ⊥) → Cycle (Within set (Edges size leads)) → ⊥
+  part_no_cycle : (n : ℕ) → size ≤ n → ((k : ℕ) → k < n → Path PartEdges k k → ⊥) → Cycle (Within set (Edges size leads)) → ⊥
   part_no_cycle n l none c = none c.0 (omega (arith, starts_inside c.1)) (path_map within_part c.1)
+
+  -- the search for a path of the part from each node to itself finds a cycle within the set, if there is one
+  pub part_finds : (r : Option (ArrayVec ℕ)) → MatchOption r ((k : ℕ) → k < size → Finds PartEdges k k None) (λ l. (k : ℕ) × Finds PartEdges k k (Some l))
+      → FindsCycle (Within set (Edges size leads)) r
+  part_finds None h = part_no_cycle size (omega arith) h
+  part_finds (Some l) h = part_cycle h.0 l.items h.1.0 h.1.1

@@ -32,14 +32,14 @@ and_test x y = rw and_digit (
     ])
 
 -- a node is in a union if it is in one of the two
-pub has-bit_or : (a b k : ℕ) → has (bit_or a b) k ≡ (has a k || has b k)
+pub bit_either : (a b k : ℕ) → has (bit_or a b) k ≡ (has a k || has b k)
 unfolding has
-has-bit_or a b k = rw or_shr (or_test (a / 2 ^ k) (b / 2 ^ k))
+bit_either a b k = rw or_shr (or_test (a / 2 ^ k) (b / 2 ^ k))
 
 -- a node is in what two sets have in common if it is in both
-pub has-bit_and : (a b k : ℕ) → has (bit_and a b) k ≡ (has a k && has b k)
+pub bit_both : (a b k : ℕ) → has (bit_and a b) k ≡ (has a k && has b k)
 unfolding has
-has-bit_and a b k = rw and_shr (and_test (a / 2 ^ k) (b / 2 ^ k))
+bit_both a b k = rw and_shr (and_test (a / 2 ^ k) (b / 2 ^ k))
 
 -- the bits of a word past the lowest are those of its half
 has_step : (x k : ℕ) → has x (suc k) ≡ has (x / 2) k
@@ -85,13 +85,13 @@ bit_not (suc w) set (suc k) s l =
 -- a node is in a set without another if it is in the first alone
 pub bit_minus : (w a b k : ℕ) → a < 2 ^ w → b < 2 ^ w → has (bit_and a (2 ^ w - 1 - b)) k ≡ (has a k && not (has b k))
 bit_minus w a b k s t = elim (cases_lt k w) [
-  | inl l ↦ has-bit_and a (2 ^ w - 1 - b) k ∙ ap (λ x. has a k && x) (bit_not w b k t l)
-  | inr l ↦ rw (has-bit_and a (2 ^ w - 1 - b) k, bit_past w a k s l)
+  | inl l ↦ bit_both a (2 ^ w - 1 - b) k ∙ ap (λ x. has a k && x) (bit_not w b k t l)
+  | inr l ↦ rw (bit_both a (2 ^ w - 1 - b) k, bit_past w a k s l)
 ]
 
 -- a node is in a set that it was added to, and any other stays
 pub bit_set : (w set n k : ℕ) → n < w → has (bit_or set ((1 * 2 ^ n) % 2 ^ w)) k ≡ (has set k || eqb k n)
-bit_set w set n k l = rw (one_shl n w l, has-bit_or set (2 ^ n) k, bit_one n k)
+bit_set w set n k l = rw (one_shl n w l, bit_either set (2 ^ n) k, bit_one n k)
 
 -- a node is not in a set that it was taken from, and any other stays
 pub bit_clear : (w set n k : ℕ) → set < 2 ^ w → n < w
@@ -151,8 +151,8 @@ bit_lowest (suc w) set s ne = elim (digit set) [
 pub bit_sum : (w a b c : ℕ) → a < 2 ^ w → b < 2 ^ w → c < 2 ^ w → ((k : ℕ) → has c k ≡ (has a k || has b k))
     → ((k : ℕ) → (has a k && has b k) ≡ false) → c ≡ a + b
 bit_sum w a b c s t u h n =
-    let apart : bit_and a b ≡ 0 = bits_tell w (bit_and a b) 0 (and_lt w a b s t) (pow_pos w) (λ k. has-bit_and a b k ∙ n k ∙ sym (bit_none k)) in
-    bits_tell w c (bit_or a b) u (or_lt w a b s t) (λ k. h k ∙ sym (has-bit_or a b k)) ∙ or_disjoint a b apart
+    let apart : bit_and a b ≡ 0 = bits_tell w (bit_and a b) 0 (and_lt w a b s t) (pow_pos w) (λ k. bit_both a b k ∙ n k ∙ sym (bit_none k)) in
+    bits_tell w c (bit_or a b) u (or_lt w a b s t) (λ k. h k ∙ sym (bit_either a b k)) ∙ or_disjoint a b apart
 
 -- a word with no bit is 0
 pub bit_empty : (w set : ℕ) → set < 2 ^ w → ((k : ℕ) → has set k ≡ false) → set ≡ 0
@@ -168,3 +168,26 @@ past_kept w set n s l k = elim (cases_eq k n) [
   | inl e ↦ rw (e, bit_past w set n s l)
   | inr d ↦ rw (ne_eqb k n d, and_true (has set k))
 ]
+
+-- the same of words of 64 bits, as the code of `nodes` has them
+pub word_minus : (a b k : ℕ) → a < 2 ^ 64 → b < 2 ^ 64 → has (bit_and a (2 ^ 64 - 1 - b)) k ≡ (has a k && not (has b k))
+word_minus a b k = bit_minus 64 a b k
+
+pub word_with : (set n k : ℕ) → n < 64 → has (bit_or set ((1 * 2 ^ n) % 2 ^ 64)) k ≡ (has set k || (ltb n 64 && eqb k n))
+word_with set n k l = rw (lt-ltb n 64 l) (bit_set 64 set n k l)
+
+pub word_without : (set n k : ℕ) → set < 2 ^ 64 → n < 64
+    → has (bit_and set (2 ^ 64 - 1 - (1 * 2 ^ n) % 2 ^ 64)) k ≡ (has set k && not (eqb k n))
+word_without set n k = bit_clear 64 set n k
+
+pub word_past : (set k : ℕ) → set < 2 ^ 64 → 64 ≤ k → has set k ≡ false
+word_past set k = bit_past 64 set k
+
+pub word_kept : (set n k : ℕ) → set < 2 ^ 64 → 64 ≤ n → (has set k && not (eqb k n)) ≡ has set k
+word_kept set n k s l = sym (past_kept 64 set n s l k)
+
+pub word_below : (n k : ℕ) → n < 64 → has ((1 * 2 ^ n) % 2 ^ 64 - 1) k ≡ ltb k n
+word_below n k l = rw (one_shl n 64 l) (bit_low n k)
+
+pub word_full : (k : ℕ) → has (2 ^ 64 - 1) k ≡ ltb k 64
+word_full k = bit_low 64 k

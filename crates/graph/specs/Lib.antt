@@ -1,5 +1,5 @@
 pub mod Edges
-pub mod Lists
+pub mod Graphs
 pub mod Nodes
 pub mod Orders
 pub mod Outcomes

@@ -1,6 +1,7 @@
 // Cycles of a part of a graph.
 ghost use Rattle.std.specs.Prelude.{◌≡◌, ℕ, ◌&&◌};
-ghost use Rattle.graph.specs.Edges.{Edges, Within};
+ghost use Rattle.graph.specs.Edges.{Within};
+ghost use Rattle.graph.specs.Graphs.{edges_of};
 ghost use Rattle.graph.specs.Nodes.{has};
 ghost use Rattle.graph.specs.Outcomes.{FindsCycle};
 
@@ -43,13 +44,8 @@ impl<G: Graph> Graph for Part<'_, G> {
 // A cycle among the nodes of the set: distinct nodes, each with an edge to the next one and the last to the first.
 // None is answered where there is none. A node with an edge to itself is a cycle.
 pub fn find_cycle<G: Graph>(graph: &G, set: NodeSet) -> Option<NodeList>
-    ensures { FindsCycle (Within set (Edges (G.Graph.size graph.now) (G.Graph.leads graph.now))) result }
+    ensures { FindsCycle (Within set (edges_of G.Graph graph.now)) result }
 {
     let part = Part { graph, nodes: set };
-    for node in 0..graph.size() {
-        if let Some(cycle) = find_path(&part, node, node) {
-            return Some(cycle);
-        }
-    }
-    None
+    (0..graph.size()).find_map(|node| find_path(&part, node, node))
 }

@@ -37,7 +37,7 @@ impl<const N: usize> Graph for [u64; N] {
     ghost few = { λ _. min-le_right N 64 };
 
     fn size(&self) -> usize {
-        if N < 64 { N } else { 64 }
+        N.min(64)
     }
 
     fn leads(&self, from: usize, to: usize) -> bool {

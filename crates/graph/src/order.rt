@@ -1,7 +1,6 @@
 // The order of the nodes of a set by their keys and edges.
-ghost use Rattle.std.specs.Prelude.{◌≡◌, ℕ, ◌<◌, ◌≤◌, true, false, cond, length};
-ghost use Rattle.graph.specs.Edges.{Edges};
-ghost use Rattle.graph.specs.Lists.{listed};
+ghost use Rattle.std.specs.Prelude.{◌≡◌, ℕ, ◌<◌, true, false};
+ghost use Rattle.graph.specs.Graphs.{edges_of};
 ghost use Rattle.graph.specs.Nodes.{has};
 ghost use Rattle.graph.specs.Orders.{Free, Orders, Picks, key_of, goes_first};
 
@@ -13,14 +12,14 @@ use crate::nodes::{NodeSet, below, contains, intersection, is_empty, without};
 fn key(keys: &[u32], node: usize) -> u32
     ensures { result ≡ key_of keys.now node }
 {
-    if node < keys.len() { keys[node] } else { 0 }
+    keys.get(node).copied().unwrap_or(0)
 }
 
 // Whether no node of the set has an edge into the node.
 fn is_free<G: Graph>(graph: &G, left: NodeSet, node: usize) -> bool
     requires { node < G.Graph.size graph.now }
-    ensures free { result ≡ true → Free (Edges (G.Graph.size graph.now) (G.Graph.leads graph.now)) (has left) node }
-    ensures held { result ≡ false → Free (Edges (G.Graph.size graph.now) (G.Graph.leads graph.now)) (has left) node → ⊥ }
+    ensures free { result ≡ true → Free (edges_of G.Graph graph.now) (has left) node }
+    ensures held { result ≡ false → Free (edges_of G.Graph graph.now) (has left) node → ⊥ }
 {
     let leading = intersection(graph.sources(node), below(graph.size()));
     is_empty(intersection(leading, left))
@@ -30,10 +29,7 @@ fn is_free<G: Graph>(graph: &G, left: NodeSet, node: usize) -> bool
 fn goes_first(keys: &[u32], node: usize, best: Option<usize>) -> bool
     ensures { result ≡ goes_first keys.now node best }
 {
-    match best {
-        Some(other) => key(keys, node) < key(keys, other),
-        None => true,
-    }
+    best.is_none_or(|other| key(keys, node) < key(keys, other))
 }
 
 // The node with the smallest key, of equal ones the smallest, among the eligible nodes of the graph that no node left
@@ -44,7 +40,7 @@ pub fn next_free<G: Graph>(
     left: NodeSet,
     eligible: NodeSet,
 ) -> Option<usize>
-    ensures { Picks (Edges (G.Graph.size graph.now) (G.Graph.leads graph.now)) (G.Graph.size graph.now) keys.now (has left) (has eligible) result }
+    ensures { Picks (edges_of G.Graph graph.now) (G.Graph.size graph.now) keys.now (has left) (has eligible) result }
 {
     let mut best = None;
     for node in 0..graph.size() {
@@ -59,17 +55,13 @@ pub fn next_free<G: Graph>(
 // not yet placed has an edge into. It stops short where the nodes not placed have a cycle. A node without a key counts
 // as having key 0.
 pub fn topological_order<G: Graph>(graph: &G, keys: &[u32], set: NodeSet) -> NodeList
-    ensures count { result.count ≤ 64 }
-    ensures places { length result.nodes ≡ 64 }
-    ensures order { Orders (Edges (G.Graph.size graph.now) (G.Graph.leads graph.now)) (G.Graph.size graph.now) keys.now set (listed result) }
+    ensures { Orders (edges_of G.Graph graph.now) (G.Graph.size graph.now) keys.now set result.items }
 {
-    let mut nodes = [0; 64];
-    let mut count = 0;
+    let mut order = NodeList::new();
     let mut left = set;
     while let Some(node) = next_free(graph, keys, left, left) {
-        nodes[count] = node;
-        count += 1;
+        order.push(node);
         left = without(left, node);
     }
-    NodeList { nodes, count }
+    order
 }

@@ -1,13 +1,12 @@
 -- From the nodes of a ledger to the jobs of the acts: cycles and orders.
 use Rattle.std.proofs.Common.{◌≡◌, ℕ, ◌<◌, ◌≤◌, T, ltb, List, [], ◌∷◌, ◌++◌, length, get_or, take, drop, Some, None, sym, refl, ap, ◌∙◌, subst, inl, inr, ⊎_elim, arith, lt→ltb}
 use Rattle.std.proofs.lemmas.List.{length-take-le}
+use Rattle.arrayvec.specs.ArrayVec.{ArrayVec}
 use Rattle.graph.specs.Edges.{Within}
-use Rattle.graph.specs.Lists.{listed}
 use Rattle.graph.specs.Nodes.{has}
-use Rattle.graph.specs.declared.list.NodeList.{NodeList}
 use Rattle.graph.specs.Orders.{Test, Free, but, Ordered, Orders}
 use Rattle.graph.specs.Paths.{Relation, Path, edge, ◌then◌, Cycle, ◌∈◌, Distinct, Linked, Forward, ShowsCycle}
-use Rattle.graph.proofs.Lists.{distinct_few, in_front}
+use Rattle.graph.proofs.Lists.{distinct_few}
 use Rattle.graph.proofs.Orders.{but_parts, but_both}
 use Rattle.graph.proofs.Parts.{T-both, T-parts}
 use Rattle.graph.proofs.Paths.{path_map}
@@ -20,7 +19,7 @@ use Rattle.history.proofs.Blocks.{order_gives_arrangement}
 use Rattle.history.proofs.Lists.{∈-dec, T_true, true_T}
 use Rattle.verdict.specs.declared.ledger.Ledger.{Ledger}
 use Rattle.verdict.specs.Turns.{opened}
-use Rattle.verdict.specs.Ledgers.{number_at, Keeps}
+use Rattle.verdict.specs.Ledgers.{number_at, count, Keeps}
 use Rattle.verdict.specs.Verdicts.{Unled, SmallestFirst, Decides}
 use Rattle.verdict.specs.Shown.{numbered, NodeEdges, Ready, NodeCycle, NodeOrder}
 use Rattle.verdict.specs.declared.judge.Verdict.TheVariants.{Yes, No}
@@ -39,13 +38,13 @@ numbered_in l p (n ∷ ns) (inr h) = inr (numbered_in l p ns h)
 
 module _ (H : List Act) (l : Ledger) (k : Keeps H l) where
   -- the nodes of the jobs that count
-  kept_node : (p : ℕ) → T (has l.kept p) → (p < l.count) × Kept not_aborted H (number_at l p)
+  kept_node : (p : ℕ) → T (has l.kept p) → (p < count l) × Kept not_aborted H (number_at l p)
   kept_node p t = k.kept.only p (T_true (has l.kept p) t)
 
-  node_kept : (p : ℕ) → p < l.count → Kept not_aborted H (number_at l p) → T (has l.kept p)
+  node_kept : (p : ℕ) → p < count l → Kept not_aborted H (number_at l p) → T (has l.kept p)
   node_kept p b q = true_T (has l.kept p) (k.kept.all p b q)
 
-  node_of_kept : (j : ℕ) → Kept not_aborted H j → (p : ℕ) × (p < l.count) × (number_at l p ≡ j)
+  node_of_kept : (j : ℕ) → Kept not_aborted H j → (p : ℕ) × (p < count l) × (number_at l p ≡ j)
   node_of_kept j q = elim (∈-dec j (opened H)) [
     | inl i ↦ node_of H l k j i
     | inr n ↦ absurd (subst (λ f. T (not_aborted f)) (k.unopened j n) q)
@@ -61,7 +60,7 @@ module _ (H : List Act) (l : Ledger) (k : Keeps H l) where
       let b = kept_node q t in
       (a.1, b.1, ((k.edges q b.0).only p (T_true (has (get_or l.into q 0) p) (T-parts (ltb q 64) (has (get_or l.into q 0) p) e.2).1)).1)
 
-  edge_node : (p q : ℕ) → p < l.count → q < l.count → Edge not_aborted H (number_at l p) (number_at l q) → NodeEdges l p q
+  edge_node : (p q : ℕ) → p < count l → q < count l → Edge not_aborted H (number_at l p) (number_at l q) → NodeEdges l p q
   edge_node p q a b e =
       let c : p < 64 = omega (arith, k.few) in
       let d : q < 64 = omega (arith, k.few) in
@@ -109,7 +108,7 @@ module _ (H : List Act) (l : Ledger) (k : Keeps H l) where
   )
 
   -- the nodes of a cycle are those of jobs that were opened, and not more of them
-  pub cycle_inside : (ns : List ℕ) → ShowsCycle (Within l.kept (NodeEdges l)) ns → (q : ℕ) → q ∈ ns → q < l.count
+  pub cycle_inside : (ns : List ℕ) → ShowsCycle (Within l.kept (NodeEdges l)) ns → (q : ℕ) → q ∈ ns → q < count l
   cycle_inside [] h q i = absurd h
   cycle_inside (n ∷ ns) h q i = (kept_node q (linked_inside n n ns h.0 q i)).0
 
@@ -140,7 +139,7 @@ module _ (H : List Act) (l : Ledger) (k : Keeps H l) where
   unled_free : (left : Test) (P : ℕ → Type 0) → Mirrors left P → (n : ℕ) → T (left n) → Unled (Edge not_aborted H) P (number_at l n) → Free (NodeEdges l) left n
   unled_free left P m n t unled p s e = unled (number_at l p) (m.to p s) (node_edge p n (m.inside p s) (m.inside n t) e)
 
-  smallest : (left : Test) (P : ℕ → Type 0) → Mirrors left P → (ns : List ℕ) → Ordered (NodeEdges l) 64 l.numbers left ns
+  smallest : (left : Test) (P : ℕ → Type 0) → Mirrors left P → (ns : List ℕ) → Ordered (NodeEdges l) 64 l.numbers.items left ns
       → ((p : ℕ) → T (left p) → p ∈ ns) → SmallestFirst (Edge not_aborted H) P (numbered l ns)
   smallest left P m [] o all = λ j q. let b = m.back j q in all b.0 b.1
   smallest left P m (n ∷ ns) o all =
@@ -163,7 +162,7 @@ module _ (H : List Act) (l : Ledger) (k : Keeps H l) where
     back = λ j q. let b = node_of_kept j q in (b.0, node_kept b.0 b.1 (subst (Kept not_aborted H) (sym b.2) q), b.2);
   }
 
-  module _ (ns : List ℕ) (o : Orders (NodeEdges l) 64 l.numbers l.kept ns) (none : Cycle (Within l.kept (NodeEdges l)) → ⊥) where
+  module _ (ns : List ℕ) (o : Orders (NodeEdges l) 64 l.numbers.items l.kept ns) (none : Cycle (Within l.kept (NodeEdges l)) → ⊥) where
     all_placed : (p : ℕ) → T (has l.kept p) → p ∈ ns
     all_placed p t = elim (∈-dec p ns) [
       | inl i ↦ i
@@ -197,50 +196,47 @@ module _ (H : List Act) (l : Ledger) (k : Keeps H l) where
     pub order_serializable : ConflictSerializable not_aborted H
     order_serializable = order_gives_arrangement not_aborted H (numbered l ns) order_serial
 
-    pub order_inside : (q : ℕ) → q ∈ ns → q < l.count
+    pub order_inside : (q : ℕ) → q ∈ ns → q < count l
     order_inside q i = (kept_node q (o.only q i).1).0
 
 -- distinct nodes of jobs fit the list, if it has a place for each job
-pub places_fit : (l : Ledger) (n : NodeList) (places : ℕ) → l.count ≤ 64 → l.count ≤ places → Distinct (listed n)
-    → ((q : ℕ) → q ∈ listed n → q < l.count) → n.count ≤ 64 → length n.nodes ≡ 64
-    → (n.count ≤ 64) × (n.count ≤ places) × ((k : ℕ) → k < n.count → get_or n.nodes k 0 < 64) × (length n.nodes ≡ 64)
-places_fit l n places few room d inside c len = (
-  c,
-  omega (arith, distinct_few l.count (listed n) d inside, length-take-le n.count n.nodes (omega arith)),
-  (λ k b. omega (arith, inside (get_or n.nodes k 0) (in_front n.nodes n.count k b (omega arith)))),
-  len,
-)
+places_fit : (l : Ledger) (ns : List ℕ) (places : ℕ) → count l ≤ places → Distinct ns → ((q : ℕ) → q ∈ ns → q < count l) → length ns ≤ places
+places_fit l ns places room d inside = omega (arith, distinct_few (count l) ns d inside)
 
 shows_distinct : (E : Relation) (ns : List ℕ) → ShowsCycle E ns → Distinct ns
 shows_distinct E [] h = absurd h
 shows_distinct E (n ∷ ns) h = h.1
 
-pub cycle_fits : (l : Ledger) (n : NodeList) (places : ℕ) → Ready l places → NodeCycle l (Some n)
-    → (n.count ≤ 64) × (n.count ≤ places) × ((k : ℕ) → k < n.count → get_or n.nodes k 0 < 64) × (length n.nodes ≡ 64)
-cycle_fits l n places r c =
-    places_fit l n places r.0.1.few r.1 (shows_distinct _ (listed n) c.1) (cycle_inside r.0.0 l r.0.1 (listed n) c.1) c.2 c.3
+-- the nodes that are shown are those of jobs, and the list has places for them
+module _ (l : Ledger) (n : ArrayVec ℕ) (places : ℕ) (r : Ready l places) where
+  pub cycle_jobs : NodeCycle l (Some n) → (q : ℕ) → q ∈ n.items → q < count l
+  cycle_jobs c = cycle_inside r.0.0 l r.0.1 n.items c.1
 
-pub order_fits : (l : Ledger) (n : NodeList) (places : ℕ) → Ready l places → NodeOrder l n → NodeCycle l None
-    → (n.count ≤ 64) × (n.count ≤ places) × ((k : ℕ) → k < n.count → get_or n.nodes k 0 < 64) × (length n.nodes ≡ 64)
-order_fits l n places r o none =
-    places_fit l n places r.0.1.few r.1 o.0.distinct (order_inside r.0.0 l r.0.1 (listed n) o.0 none) o.1 o.2
+  pub cycle_fits : NodeCycle l (Some n) → length n.items ≤ places
+  cycle_fits c = places_fit l n.items places r.1 (shows_distinct _ n.items c.1) (cycle_jobs c)
+
+  pub order_jobs : NodeOrder l n → NodeCycle l None → (q : ℕ) → q ∈ n.items → q < count l
+  order_jobs o none = order_inside r.0.0 l r.0.1 n.items o none
+
+  pub order_fits : NodeOrder l n → NodeCycle l None → length n.items ≤ places
+  order_fits o none = places_fit l n.items places r.1 o.distinct (order_jobs o none)
 
 -- the list after the numbers are put
-module _ (H : List Act) (l : Ledger) (k : Keeps H l) (n : NodeList) (before after : List ℕ) (b : n.count ≤ length after)
-    (front : take n.count after ≡ numbered l (listed n)) (rest : drop n.count after ≡ drop n.count before) where
-  pub cycle_decides : NodeCycle l (Some n) → Decides not_aborted H before (No n.count) after
+module _ (H : List Act) (l : Ledger) (k : Keeps H l) (n : ArrayVec ℕ) (before after : List ℕ) (b : length n.items ≤ length after)
+    (front : take (length n.items) after ≡ numbered l n.items) (rest : drop (length n.items) after ≡ drop (length n.items) before) where
+  pub cycle_decides : NodeCycle l (Some n) → Decides not_aborted H before (No (length n.items)) after
   cycle_decides c = (
     cycle_refutes H l k c.0,
-    record { count = length-take-le n.count after b; cycle = subst (ShowsCycle (Edge not_aborted H)) (sym front) (cycle_shown H l k (listed n) c.1); rest = rest },
+    record { count = length-take-le (length n.items) after b; cycle = subst (ShowsCycle (Edge not_aborted H)) (sym front) (cycle_shown H l k n.items c.1); rest = rest },
   )
 
-  pub order_decides : NodeOrder l n → NodeCycle l None → Decides not_aborted H before (Yes n.count) after
+  pub order_decides : NodeOrder l n → NodeCycle l None → Decides not_aborted H before (Yes (length n.items)) after
   order_decides o none = (
-    order_serializable H l k (listed n) o.0 none,
+    order_serializable H l k n.items o none,
     record {
-      count = length-take-le n.count after b;
-      serial = subst (SerialOrder not_aborted H) (sym front) (order_serial H l k (listed n) o.0 none);
-      smallest = subst (SmallestFirst (Edge not_aborted H) (Kept not_aborted H)) (sym front) (order_smallest H l k (listed n) o.0 none);
+      count = length-take-le (length n.items) after b;
+      serial = subst (SerialOrder not_aborted H) (sym front) (order_serial H l k n.items o none);
+      smallest = subst (SmallestFirst (Edge not_aborted H) (Kept not_aborted H)) (sym front) (order_smallest H l k n.items o none);
       rest = rest;
     },
   )

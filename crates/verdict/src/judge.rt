@@ -1,11 +1,10 @@
 // The verdict on a list of steps, with the order or the cycle that shows it.
-ghost use Rattle.std.specs.Prelude.{◌≡◌, ℕ, ◌<◌, ◌≤◌, true, false, List, length, take, drop, Some, None, slice_index};
-ghost use Rattle.graph.specs.Lists.{listed};
+ghost use Rattle.std.specs.Prelude.{◌≡◌, ℕ, ◌<◌, ◌≤◌, true, false, List, length, take, drop, Some, None};
 ghost use Rattle.graph.specs.Nodes.{has};
 ghost use Rattle.graph.specs.Paths.{◌∈◌};
 ghost use Rattle.history.specs.Acts.{not_aborted};
 ghost use Rattle.trace.specs.declared.act.Act.{Act};
-ghost use Rattle.verdict.specs.Ledgers.{Keeps};
+ghost use Rattle.verdict.specs.Ledgers.{Keeps, count};
 ghost use Rattle.verdict.specs.Shown.{NodeCycle, NodeOrder, Ready, numbered};
 ghost use Rattle.verdict.specs.Turns.{acts};
 ghost use Rattle.verdict.specs.Verdicts.{Decides, Judges};
@@ -30,24 +29,24 @@ pub enum Verdict {
 
 // Puts the numbers of the jobs at these nodes into the list.
 fn put(ledger: &Ledger, chosen: &NodeList, numbers: &mut [u32])
-    requires { (chosen.now.count ≤ 64) × (chosen.now.count ≤ length numbers.old) × ((k : ℕ) → k < chosen.now.count → slice_index chosen.now.nodes k < 64) × (length chosen.now.nodes ≡ 64) }
-    ensures front { take chosen.now.count numbers.new ≡ numbered ledger.now (listed chosen.now) }
-    ensures rest { drop chosen.now.count numbers.new ≡ drop chosen.now.count numbers.old }
+    requires fits { length chosen.now.items ≤ length numbers.old }
+    requires jobs { (n : ℕ) → n ∈ chosen.now.items → n < count ledger.now }
+    ensures front { take (length chosen.now.items) numbers.new ≡ numbered ledger.now chosen.now.items }
+    ensures rest { drop (length chosen.now.items) numbers.new ≡ drop (length chosen.now.items) numbers.old }
 {
-    for at in 0..chosen.count {
-        numbers[at] = ledger.numbers[chosen.nodes[at]];
+    for (at, node) in chosen.iter().enumerate() {
+        numbers[at] = ledger.numbers[*node];
     }
 }
 
 // Whether every node of the set stands in the list.
 fn has_all(list: &NodeList, set: NodeSet) -> bool
-    requires { (list.now.count ≤ 64) × (length list.now.nodes ≡ 64) }
-    ensures all { result ≡ true → (n : ℕ) → has set n ≡ true → n ∈ listed list.now }
-    ensures some { result ≡ false → ((n : ℕ) → has set n ≡ true → n ∈ listed list.now) → ⊥ }
+    ensures all { result ≡ true → (n : ℕ) → has set n ≡ true → n ∈ list.now.items }
+    ensures some { result ≡ false → ((n : ℕ) → has set n ≡ true → n ∈ list.now.items) → ⊥ }
 {
     let mut missing = set;
-    for at in 0..list.count {
-        missing = without(missing, list.nodes[at]);
+    for node in list.iter() {
+        missing = without(missing, *node);
     }
     is_empty(missing)
 }
@@ -79,20 +78,23 @@ fn order_of(ledger: &Ledger) -> NodeList
 
 // No: the list gets the numbers of the cycle.
 fn show_cycle(ledger: &Ledger, cycle: &NodeList, numbers: &mut [u32]) -> Verdict
-    requires { NodeCycle ledger.now (Some cycle.now) × Ready ledger.now (length numbers.old) }
+    requires cycle { NodeCycle ledger.now (Some cycle.now) }
+    requires ready { Ready ledger.now (length numbers.old) }
     ensures { (H : List Act) → Keeps H ledger.now → Decides not_aborted H numbers.old result numbers.new }
 {
     put(ledger, cycle, numbers);
-    Verdict::No(cycle.count)
+    Verdict::No(cycle.len())
 }
 
 // Yes: the list gets the numbers of the order.
 fn show_order(ledger: &Ledger, order: &NodeList, numbers: &mut [u32]) -> Verdict
-    requires { NodeOrder ledger.now order.now × NodeCycle ledger.now None × Ready ledger.now (length numbers.old) }
+    requires order { NodeOrder ledger.now order.now }
+    requires none { NodeCycle ledger.now None }
+    requires ready { Ready ledger.now (length numbers.old) }
     ensures { (H : List Act) → Keeps H ledger.now → Decides not_aborted H numbers.old result numbers.new }
 {
     put(ledger, order, numbers);
-    Verdict::Yes(order.count)
+    Verdict::Yes(order.len())
 }
 
 // The verdict on the acts of the ledger.
@@ -116,7 +118,7 @@ pub fn judge(steps: &[Step], numbers: &mut [u32]) -> Result<Verdict, JudgeRefusa
     ensures { Judges not_aborted (acts steps.now) numbers.old result numbers.new }
 {
     let ledger = read_steps(steps)?;
-    if numbers.len() < ledger.count {
+    if numbers.len() < ledger.numbers.len() {
         return Err(JudgeRefusal::ListTooShort);
     }
     Ok(decide(&ledger, numbers))

@@ -1,129 +1,103 @@
 // The steps of a trace, one after another.
-ghost use Rattle.std.specs.Prelude.{◌≡◌, ℕ, ◌<◌, ◌≤◌, List, [], ◌∷◌, ◌++◌, length, take, slice_index_or};
+ghost use Rattle.std.specs.Prelude.{◌≡◌, ℕ, List, [], ◌∷◌, ◌++◌, length};
 ghost use Rattle.graph.specs.Paths.{Distinct};
-ghost use Rattle.history.specs.Conflicts.{Access, accesses};
-ghost use Rattle.trace.specs.declared.act.Act.TheVariants.{Open, Read, Write, Commit, Abort, Retire};
-ghost use Rattle.verdict.specs.Ledgers.{Keeps, ReadsSteps, Takes, UsersOf};
+ghost use Rattle.history.specs.Conflicts.{Access as Accessed, accesses};
+ghost use Rattle.trace.specs.declared.act.Act.TheVariants.{Open, Commit, Abort};
+ghost use Rattle.verdict.specs.Ledgers.{Keeps, ReadsSteps, Takes, TellsOpen, UsersOf};
 ghost use Rattle.verdict.specs.Turns.{acts};
+ghost use Rattle.verdict.specs.Users.{Accesses, act_of};
 
-use crate::ledger::{Ledger, Users};
+use crate::ledger::Ledger;
 use crate::refusal::JudgeRefusal;
-use graph::nodes::with;
+use crate::users::{Access, Users};
 use trace::act::{Act, Step};
 
-// Notes an act that uses the item.
-fn note_use(users: &mut Users, ledger: &Ledger, act: &Act, item: u32)
-    requires { (ledger.now.count ≤ 64) × Distinct (take ledger.now.count ledger.now.numbers) × (length ledger.now.numbers ≡ 64) }
-    ensures { (s : List Access) → UsersOf s ledger.now item users.old → UsersOf (s ++ accesses (act.now ∷ [])) ledger.now item users.new }
+// The access that an act is, if it is one, with its job and its item.
+fn access_of(act: &Act) -> Option<(Access, u32, u32)>
+    ensures { Accesses act.now result }
 {
     match act {
-        Act::Read {
-            job,
-            item: used,
-            value: _,
-        } => {
-            if *used == item {
-                if let Some(node) = ledger.find(*job) {
-                    users.readers = with(users.readers, node);
-                }
-            }
-        }
-        Act::Write {
-            job,
-            item: used,
-            value: _,
-        } => {
-            if *used == item {
-                if let Some(node) = ledger.find(*job) {
-                    users.writers = with(users.writers, node);
-                }
-            }
-        }
-        Act::Open { job: _ } => {}
-        Act::Commit { job: _ } => {}
-        Act::Abort { job: _ } => {}
-        Act::Peek { item: _, value: _ } => {}
-        Act::Retire => {}
+        Act::Read { job, item, .. } => Some((Access::Read, *job, *item)),
+        Act::Write { job, item, .. } => Some((Access::Write, *job, *item)),
+        _ => None,
     }
 }
 
-// The users of an item among the first steps.
-fn users_of(ledger: &Ledger, steps: &[Step], index: usize, item: u32) -> Users
-    requires { (ledger.now.count ≤ 64) × Distinct (take ledger.now.count ledger.now.numbers) × (length ledger.now.numbers ≡ 64) × (index ≤ length steps.now) }
-    ensures { UsersOf (accesses (acts (take index steps.now))) ledger.now item result }
+// Notes an act that uses the item.
+fn note_use(users: &mut Users, ledger: &Ledger, act: &Act, item: u32)
+    requires { Distinct ledger.now.numbers.items }
+    ensures { (s : List Accessed) → UsersOf s ledger.now.numbers.items item users.old → UsersOf (s ++ accesses (act.now ∷ [])) ledger.now.numbers.items item users.new }
 {
-    let mut users = Users {
-        readers: 0,
-        writers: 0,
+    let Some((access, job, used)) = access_of(act) else {
+        return;
     };
-    for at in 0..index {
-        note_use(&mut users, ledger, &steps[at].act, item);
+    if used == item {
+        if let Some(node) = ledger.find(job) {
+            users.note(access, node);
+        }
+    }
+}
+
+// The users of an item among these steps.
+fn users_of(ledger: &Ledger, before: &[Step], item: u32) -> Users
+    requires { Distinct ledger.now.numbers.items }
+    ensures { UsersOf (accesses (acts before.now)) ledger.now.numbers.items item result }
+{
+    let mut users = Users::none();
+    for step in before {
+        note_use(&mut users, ledger, &step.act, item);
     }
     users
 }
 
-// The users of an item among the first steps: those that the ledger has, or where it does not have them, by a look at
+// The users of an item among the steps before: those that the ledger has, or where it does not have them, by a look at
 // those steps.
-fn users(ledger: &Ledger, steps: &[Step], index: usize, item: u32) -> Users
-    requires { (index ≤ length steps.now) × Keeps (acts (take index steps.now)) ledger.now }
-    ensures { UsersOf (accesses (acts (take index steps.now))) ledger.now item result }
+fn users(ledger: &Ledger, before: &[Step], item: u32) -> Users
+    requires { Keeps (acts before.now) ledger.now }
+    ensures { UsersOf (accesses (acts before.now)) ledger.now.numbers.items item result }
 {
     if item < 64 {
-        ledger.users(item as usize)
+        ledger.users[item as usize]
     } else {
-        users_of(ledger, steps, index, item)
+        users_of(ledger, before, item)
     }
 }
 
-// Takes a read of the item by the job, at the index.
-fn read(
-    ledger: &mut Ledger,
-    steps: &[Step],
-    index: usize,
-    job: u32,
-    item: u32,
-) -> Result<(), JudgeRefusal>
-    requires { (index ≤ length steps.now) × Keeps (acts (take index steps.now)) ledger.old }
-    ensures { (value : ℕ) → Takes (acts (take index steps.now)) (Read job item value) index result ledger.new }
+// The node of a job that is open, for a step of it at the index.
+fn open_node(ledger: &Ledger, index: usize, job: u32) -> Result<usize, JudgeRefusal>
+    ensures { TellsOpen ledger.now job index result }
 {
-    let Some(node) = ledger.find_open(job) else {
-        return Err(JudgeRefusal::OutOfTurn { index });
-    };
-    let users = users(ledger, steps, index, item);
-    ledger.draw(node, users.before_read());
-    ledger.note_read(item, node);
-    Ok(())
+    ledger
+        .find_open(job)
+        .ok_or(JudgeRefusal::OutOfTurn { index })
 }
 
-// Takes a write of the item by the job, at the index.
-fn write(
+// Takes an access of the item by the job, after the steps before.
+fn access(
     ledger: &mut Ledger,
-    steps: &[Step],
-    index: usize,
+    before: &[Step],
+    access: Access,
     job: u32,
     item: u32,
 ) -> Result<(), JudgeRefusal>
-    requires { (index ≤ length steps.now) × Keeps (acts (take index steps.now)) ledger.old }
-    ensures { (value : ℕ) → Takes (acts (take index steps.now)) (Write job item value) index result ledger.new }
+    requires { Keeps (acts before.now) ledger.old }
+    ensures { (value : ℕ) → Takes (acts before.now) (act_of access job item value) (length before.now) result ledger.new }
 {
-    let Some(node) = ledger.find_open(job) else {
-        return Err(JudgeRefusal::OutOfTurn { index });
-    };
-    let users = users(ledger, steps, index, item);
-    ledger.draw(node, users.before_write());
-    ledger.note_write(item, node);
+    let node = open_node(ledger, before.len(), job)?;
+    let users = users(ledger, before, item);
+    ledger.draw(node, users.conflicting(access));
+    ledger.note(access, item, node);
     Ok(())
 }
 
 // Takes the opening of a job, at the index.
 fn open(ledger: &mut Ledger, index: usize, job: u32) -> Result<(), JudgeRefusal>
-    requires { ledger.old.count ≤ 64 }
     ensures { (H : List Act) → Keeps H ledger.old → Takes H (Open job) index result ledger.new }
 {
-    if let Some(_) = ledger.find(job) {
+    if ledger.find(job).is_some() {
         return Err(JudgeRefusal::OutOfTurn { index });
     }
-    if ledger.count >= 64 {
+    if ledger.numbers.is_full() {
         return Err(JudgeRefusal::TooManyJobs);
     }
     ledger.add(job);
@@ -132,48 +106,35 @@ fn open(ledger: &mut Ledger, index: usize, job: u32) -> Result<(), JudgeRefusal>
 
 // Takes the commit of a job, at the index.
 fn commit(ledger: &mut Ledger, index: usize, job: u32) -> Result<(), JudgeRefusal>
-    requires { ledger.old.count ≤ 64 }
     ensures { (H : List Act) → Keeps H ledger.old → Takes H (Commit job) index result ledger.new }
 {
-    let Some(node) = ledger.find_open(job) else {
-        return Err(JudgeRefusal::OutOfTurn { index });
-    };
+    let node = open_node(ledger, index, job)?;
     ledger.end(node);
     Ok(())
 }
 
 // Takes the abort of a job, at the index.
 fn abort(ledger: &mut Ledger, index: usize, job: u32) -> Result<(), JudgeRefusal>
-    requires { ledger.old.count ≤ 64 }
     ensures { (H : List Act) → Keeps H ledger.old → Takes H (Abort job) index result ledger.new }
 {
-    let Some(node) = ledger.find_open(job) else {
-        return Err(JudgeRefusal::OutOfTurn { index });
-    };
+    let node = open_node(ledger, index, job)?;
     ledger.strike(node);
     Ok(())
 }
 
-// Takes the step at the index.
-fn follow(ledger: &mut Ledger, steps: &[Step], index: usize) -> Result<(), JudgeRefusal>
-    requires { (index < length steps.now) × Keeps (acts (take index steps.now)) ledger.old }
-    ensures { Takes (acts (take index steps.now)) (slice_index_or (acts steps.now) index Retire) index result ledger.new }
+// Takes an act, after the steps before.
+fn follow(ledger: &mut Ledger, before: &[Step], act: &Act) -> Result<(), JudgeRefusal>
+    requires { Keeps (acts before.now) ledger.old }
+    ensures { Takes (acts before.now) act.now (length before.now) result ledger.new }
 {
-    match &steps[index].act {
+    let index = before.len();
+    match act {
         Act::Open { job } => open(ledger, index, *job),
-        Act::Read {
-            job,
-            item,
-            value: _,
-        } => read(ledger, steps, index, *job, *item),
-        Act::Write {
-            job,
-            item,
-            value: _,
-        } => write(ledger, steps, index, *job, *item),
+        Act::Read { job, item, .. } => access(ledger, before, Access::Read, *job, *item),
+        Act::Write { job, item, .. } => access(ledger, before, Access::Write, *job, *item),
         Act::Commit { job } => commit(ledger, index, *job),
         Act::Abort { job } => abort(ledger, index, *job),
-        Act::Peek { item: _, value: _ } => Ok(()),
+        Act::Peek { .. } => Ok(()),
         Act::Retire => Ok(()),
     }
 }
@@ -183,8 +144,8 @@ pub(crate) fn read_steps(steps: &[Step]) -> Result<Ledger, JudgeRefusal>
     ensures { ReadsSteps (acts steps.now) result }
 {
     let mut ledger = Ledger::new();
-    for index in 0..steps.len() {
-        follow(&mut ledger, steps, index)?;
+    for (index, step) in steps.iter().enumerate() {
+        follow(&mut ledger, &steps[..index], &step.act)?;
     }
     Ok(ledger)
 }

@@ -1,22 +1,13 @@
-use Rattle.std.proofs.Common.{arith, below_more}
-use Rattle.graph.specs.Lists.{listed}
-use Rattle.graph.specs.Paths.{Path}
-use Rattle.graph.proofs.Parts.{PartEdges, part_cycle, part_no_cycle}
+use Rattle.std.proofs.Common.{rules}
+use Rattle.graph.specs.Outcomes.{Finds}
+use Rattle.graph.proofs.Parts.{PartEdges, part_finds}
+use Rattle.graph.proofs.Ranges.{found_below}
 use Rattle.graph.proofs.cycle.find_cycle.Goals as goal
-
-pub returns-in-Some : goal.returns-in-Some
-returns-in-Some g c =
-    let graph = c.args.graph.now in
-    let f = c.in-Some.ensures in
-    let s = part_cycle (g.G.Graph.size graph) c.args.set (g.G.Graph.leads graph) c.loop-node.node (listed c.in-Some.cycle) f.0 f.1 in
-    (s.0, s.1, f.2, f.3)
-
-pub loop-node-preserved : goal.loop-node-preserved
-loop-node-preserved g c =
-    below_more (λ k. Path (PartEdges (g.G.Graph.size c.args.graph.now) c.args.set (g.G.Graph.leads c.args.graph.now)) k k → _)
-    c.loop-node.node c.loop-node.invariant c.in_default.ensures
 
 pub returns : goal.returns
 returns g c =
-    let graph = c.args.graph.now in
-    part_no_cycle (g.G.Graph.size graph) c.args.set (g.G.Graph.leads graph) c.loop-node.node (omega arith) c.loop-node.invariant
+    let size = g.G.Graph.size c.args.graph.now in
+    let leads = g.G.Graph.leads c.args.graph.now in
+    let runs = c.find_map.ensures.runs in
+    part_finds size c.args.set leads c.find_map.result
+    (found_below _ size _ (cc) (λ k r. Finds (PartEdges size c.args.set leads) k k r) (search rules) (λ x a q k. search rules) c.find_map.result runs)

@@ -1,5 +1,5 @@
 use Rattle.std.proofs.Common.{ℕ, ◌+◌, T, Option, sym, refl, subst}
-use Rattle.graph.specs.Edges.{Edges}
+use Rattle.graph.specs.Graphs.{edges_of}
 use Rattle.graph.specs.Nodes.{has}
 use Rattle.graph.specs.Orders.{Picks}
 use Rattle.graph.proofs.Orders.{picks_skip, picks_keep, picks_take}
@@ -9,7 +9,7 @@ use Rattle.graph.proofs.order.next_free.Goals.{then-contains+then-is_free+then-g
 pub loop-node-preserved : goal.loop-node-preserved
 loop-node-preserved g c =
     let graph = c.args.graph.now in
-    let E = Edges (g.G.Graph.size graph) (g.G.Graph.leads graph) in
+    let E = edges_of g.G.Graph graph in
     let keys = c.args.keys.now in
     let left = has c.args.left in
     let eligible = has c.args.eligible in

@@ -1,8 +1,8 @@
-use Rattle.graph.specs.Edges.{Edges}
+use Rattle.graph.specs.Graphs.{edges_of}
 use Rattle.graph.specs.Nodes.{has}
 use Rattle.graph.specs.Orders.{Picks}
 use Rattle.graph.proofs.order.next_free.Given as goal
 
 abbrev pub invariant-loop-node : goal.invariant-loop-node
 invariant-loop-node g l =
-    Picks (Edges (g.G.Graph.size l.graph) (g.G.Graph.leads l.graph)) l.node l.keys (has l.left) (has l.eligible) l.best
+    Picks (edges_of g.G.Graph l.graph) l.node l.keys (has l.left) (has l.eligible) l.best

@@ -1,13 +1,12 @@
-use Rattle.std.proofs.Common.{◌≡◌, ◌-◌, ◌≤◌, length, take}
-use Rattle.graph.specs.Edges.{Edges}
+use Rattle.std.proofs.Common.{◌-◌, length}
+use Rattle.graph.specs.Graphs.{edges_of}
 use Rattle.graph.specs.Nodes.{has}
 use Rattle.graph.proofs.Orders.{Placed}
 use Rattle.graph.proofs.order.topological_order.Given as goal
 
 abbrev pub invariant-loop-node : goal.invariant-loop-node
 invariant-loop-node g l =
-    (length l.nodes ≡ 64) × (l.count ≤ 64)
-    × Placed (Edges (g.G.Graph.size l.graph) (g.G.Graph.leads l.graph)) (g.G.Graph.size l.graph) l.keys (has l.set) (take l.count l.nodes) (has l.left)
+    Placed (edges_of g.G.Graph l.graph) (g.G.Graph.size l.graph) l.keys (has l.set) l.order.items (has l.left)
 
 abbrev pub decreases-loop-node : goal.decreases-loop-node
-decreases-loop-node g l = 64 - l.count
+decreases-loop-node g l = 64 - length l.order.items

@@ -1,16 +1,16 @@
 use Rattle.std.proofs.Common.{◌≡◌, ◌-◌, None}
-use Rattle.graph.specs.Edges.{Edges}
+use Rattle.graph.specs.Graphs.{edges_of}
 use Rattle.graph.proofs.Search.{Searched, Searching}
 use Rattle.graph.proofs.path.search.Given as goal
 
 abbrev pub invariant-loop-to : goal.invariant-loop-to
 invariant-loop-to g l =
-    Searching (Edges (g.G.Graph.size l.graph) (g.G.Graph.leads l.graph)) (g.G.Graph.size l.graph) l.start l.goal l.found l.head l.at l.to
+    Searching (edges_of g.G.Graph l.graph) (g.G.Graph.size l.graph) l.start l.goal l.found l.head l.at l.to
     × (l.last ≡ None)
 
 abbrev pub invariant-search : goal.invariant-search
 invariant-search g l =
-    Searched (Edges (g.G.Graph.size l.graph) (g.G.Graph.leads l.graph)) (g.G.Graph.size l.graph) l.start l.goal l.found l.head
+    Searched (edges_of g.G.Graph l.graph) (g.G.Graph.size l.graph) l.start l.goal l.found l.head
     × (l.last ≡ None)
 
 abbrev pub decreases-search : goal.decreases-search

@@ -2,5 +2,5 @@ use Rattle.std.proofs.Common.{take}
 use Rattle.verdict.proofs.Missing.{Missing}
 use Rattle.verdict.proofs.judge.has_all.Given as goal
 
-abbrev pub invariant-loop-at : goal.invariant-loop-at
-invariant-loop-at l = Missing l.set (take l.at l.list.nodes) l.missing
+abbrev pub invariant-loop-node : goal.invariant-loop-node
+invariant-loop-node l = Missing l.set (take l.node-index l.list.items) l.missing

@@ -1,17 +1,23 @@
-use Rattle.std.proofs.Common.{refl, arith}
-use Rattle.verdict.proofs.Ledgers.{opened_before, opened_never, no_room, counted, keeps_open}
+use Rattle.std.proofs.Common.{◌≡◌, ◌<◌, refl, sym, ◌∙◌, arith}
+use Rattle.verdict.specs.Ledgers.{count}
+use Rattle.verdict.proofs.Ledgers.{found_before, found_never, counted, keeps_open}
 use Rattle.verdict.proofs.reading.open.Goals as goal
 
-pub returns-in-Some : goal.returns-in-Some
-returns-in-Some c H k = (refl, opened_before H c.args.ledger.now k c.args.job c.in-Some.field-0 c.in-Some.ensures)
+pub returns-then-is_some : goal.returns-then-is_some
+returns-then-is_some c H k =
+    (refl, found_before H c.args.ledger.now k c.args.job c.find.result c.find.ensures.found (sym c.is_some.ensures ∙ c.if-is_some.true))
 
-pub returns-then-ledger-ge64 : goal.returns-then-ledger-ge64
-returns-then-ledger-ge64 c H k =
+pub returns-then-is_full : goal.returns-then-is_full
+returns-then-is_full c H k =
     let l = c.args.ledger.now in
-    (opened_never H l k c.args.job c.in_default.ensures, no_room H l k c.args.job c.if-ledger-ge64.true)
+    let full : count l ≡ 64 = grind arith in (
+      found_never H l k c.args.job c.find.result c.find.ensures.found (sym c.is_some.ensures ∙ c.if-is_some.false),
+      λ room. omega (arith, counted H l k),
+    )
 
 pub returns : goal.returns
 returns c H k =
     let l = c.args.ledger.now in
-    let new = opened_never H l k c.args.job c.in_default.ensures in
-    (new, omega (arith, counted H l k, c.if-ledger-ge64.false), keeps_open H l c.add.new.self c.args.job k new c.if-ledger-ge64.false c.add.ensures)
+    let new = found_never H l k c.args.job c.find.result c.find.ensures.found (sym c.is_some.ensures ∙ c.if-is_some.false) in
+    let room : count l < 64 = grind arith in
+    (new, omega (arith, counted H l k), keeps_open H l c.add.new.self c.args.job k new room c.add.ensures)

@@ -4,5 +4,5 @@ use Rattle.verdict.specs.Ledgers.{UsersOf}
 use Rattle.verdict.specs.Turns.{acts}
 use Rattle.verdict.proofs.reading.users_of.Given as goal
 
-abbrev pub invariant-loop-at : goal.invariant-loop-at
-invariant-loop-at l = UsersOf (accesses (acts (take l.at l.steps))) l.ledger l.item l.users
+abbrev pub invariant-loop-step : goal.invariant-loop-step
+invariant-loop-step l = UsersOf (accesses (acts (take l.step-index l.before))) l.ledger.numbers.items l.item l.users

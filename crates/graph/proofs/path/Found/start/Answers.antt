@@ -5,9 +5,7 @@ use Rattle.graph.proofs.path.Found.start.Goals as goal
 
 pub returns : goal.returns
 returns c = record {
-  order = refl;
-  count = refl;
-  from = refl;
-  depth = refl;
+  order = cc;
   seen = λ k. c.with.ensures k ∙ simp (bit_none, lt-ltb c.args.start 64 c.requires);
+  reach = refl;
 }
