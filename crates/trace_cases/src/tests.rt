@@ -17,16 +17,14 @@ fn outcome(trace: &[u8]) -> Refused {
     let mut steps = [BLANK; 2];
     match read_trace(trace, &mut steps) {
         Ok(_) => Refused(0, 0, 0, 0, 0),
-        Err(why) => match why {
-            ReadRefusal::Line(fault) => Refused(
-                why.number(),
-                fault.cause(),
-                fault.field(),
-                fault.place.line,
-                fault.place.start,
-            ),
-            ReadRefusal::Full { line } => Refused(why.number(), 0, 0, line, 0),
-        },
+        Err(why @ ReadRefusal::Line(fault)) => Refused(
+            why.number(),
+            fault.cause(),
+            fault.field(),
+            fault.place.line,
+            fault.place.start,
+        ),
+        Err(why @ ReadRefusal::Full { line }) => Refused(why.number(), 0, 0, line, 0),
     }
 }
 
@@ -120,13 +118,11 @@ fn an_input_that_is_too_long_is_not_looked_at(rt: HostRuntime) -> Result<(), Fai
         read_input(&[b'\n'; 32769], &mut steps),
         Err(ReadRefusal::Full { line: 0 })
     );
-    match read_input(&[b'\n'; 32768], &mut steps) {
-        Err(ReadRefusal::Line(fault)) => {
-            assert_eq!(rt; fault.cause(), 2);
-            Ok(())
-        },
-        _ => Err(Fail::new("a line at fault")),
-    }
+    let Err(ReadRefusal::Line(fault)) = read_input(&[b'\n'; 32768], &mut steps) else {
+        return Err(Fail::new("a line at fault"));
+    };
+    assert_eq!(rt; fault.cause(), 2);
+    Ok(())
 }
 
 #[test]
@@ -195,10 +191,8 @@ fn a_trace_comes_back_as_it_was_written(rt: HostRuntime) {
 fn told(answer: Result<usize, WriteRefusal>) -> (u32, usize) {
     match answer {
         Ok(length) => (0, length),
-        Err(why) => match why {
-            WriteRefusal::ItemAboveLimit { item } => (why.number(), item as usize),
-            WriteRefusal::DoesNotFit { length } => (why.number(), length),
-        },
+        Err(why @ WriteRefusal::ItemAboveLimit { item }) => (why.number(), item as usize),
+        Err(why @ WriteRefusal::DoesNotFit { length }) => (why.number(), length),
     }
 }
 
@@ -217,21 +211,17 @@ fn a_refusal_tells_its_number_and_its_place(rt: HostRuntime) -> Result<(), Fail>
     };
     assert_eq!(rt; told(write_act(&far, &mut bytes)), (5, 64));
     let mut steps = [BLANK; 1];
-    match read_input(&[b'\n'; 32769], &mut steps) {
-        Err(why) => {
-            assert_eq!(rt; why.number(), 13);
-        }
-        Ok(_) => return Err(Fail::new("an input that is too long")),
-    }
-    match read_input(&[b'\n'; 32768], &mut steps) {
-        Err(ReadRefusal::Line(fault)) => {
-            assert_eq!(rt; ReadRefusal::Line(fault).number(), 9);
-            assert_eq!(rt;
-                (fault.field(), fault.place.line, fault.place.start),
-                (0, 1, 0)
-            );
-            Ok(())
-        }
-        _ => Err(Fail::new("a line at fault")),
-    }
+    let Err(why) = read_input(&[b'\n'; 32769], &mut steps) else {
+        return Err(Fail::new("an input that is too long"));
+    };
+    assert_eq!(rt; why.number(), 13);
+    let Err(why @ ReadRefusal::Line(fault)) = read_input(&[b'\n'; 32768], &mut steps) else {
+        return Err(Fail::new("a line at fault"));
+    };
+    assert_eq!(rt; why.number(), 9);
+    assert_eq!(rt;
+        (fault.field(), fault.place.line, fault.place.start),
+        (0, 1, 0)
+    );
+    Ok(())
 }
