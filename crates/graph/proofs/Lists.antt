@@ -89,8 +89,8 @@ one_place (x ∷ xs) zero (suc q) d l m e = absurd (d.0 (subst (λ n. n ∈ xs) 
 one_place (x ∷ xs) (suc p) zero d l m e = absurd (d.0 (subst (λ n. n ∈ xs) e (in_at xs p (omega arith))))
 one_place (x ∷ xs) (suc p) (suc q) d l m e = ap suc (one_place xs p q d.1 (omega arith) (omega arith) e)
 
--- a list of zeros has zero at every place
-pub zeros : (k n : ℕ) → ◌≡◌ {A = ℕ} (get_or (replicate k 0) n 0) 0
-zeros zero n = refl
-zeros (suc k) zero = refl
-zeros (suc k) (suc n) = zeros k n
+-- a list of one thing has it at every place, also past its end
+pub all_same : {A : Type 0} (k n : ℕ) (d : A) → get_or (replicate k d) n d ≡ d
+all_same zero n d = refl
+all_same (suc k) zero d = refl
+all_same (suc k) (suc n) d = all_same k n d

@@ -1,15 +1,15 @@
 -- What a search has found: the way to a node, and that it is a path.
-use Rattle.std.proofs.Common.{◌≡◌, ℕ, zero, suc, ◌+◌, ◌<◌, ◌≤◌, true, false, ◌⊎◌, List, [], ◌∷◌, ◌++◌, length, get_or, replicate, reverse, Some, None, Option, sym, refl, ap, ◌∙◌, subst, inl, inr, ⊎_elim, add-one, arith}
-use Rattle.std.proofs.Math.ListN.{get_or-append, get_or-eq_default}
-use Rattle.std.proofs.lemmas.List.{reverse-append, get_or-replicate, get_or-set_same, get_or-set_other, length-set, length_push}
-use Rattle.std.proofs.lemmas.Bool.{both_ways, eq-eqb, eqb-true, or_left, or_right, or_cases, cases_Bool, cases_eq, cases_lt}
+use Rattle.std.proofs.Common.{◌≡◌, ℕ, zero, suc, ◌+◌, ◌<◌, ◌≤◌, true, false, ◌⊎◌, List, [], ◌∷◌, ◌++◌, length, get_or, reverse, Some, None, Option, sym, refl, ap, ◌∙◌, subst, inl, inr, ⊎_elim, add-one, arith}
+use Rattle.std.proofs.Math.ListN.{get_or-append}
+use Rattle.std.proofs.lemmas.List.{reverse-append, get_or-set_same, get_or-set_other, length-set, length_push}
+use Rattle.std.proofs.lemmas.Bool.{both_ways, eq-eqb, eqb-true, or_left, or_right, or_cases, cases_Bool, cases_eq}
 use Rattle.graph.specs.Nodes.{has}
 use Rattle.graph.specs.Paths.{Relation, ◌∈◌, Distinct, Linked, Path, ShowsPath}
 use Rattle.graph.specs.Search.{unreached, from_of, depth_of, way_before, Starts, Adds}
 use Rattle.graph.specs.declared.path.Found.{Found}
 use Rattle.graph.specs.declared.path.Reach.{Reach}
 use Rattle.graph.proofs.Paths.{no_way_out, shown_path}
-use Rattle.graph.proofs.Lists.{in_at, place_of, in_left, in_right, in_push, distinct_push, distinct_few}
+use Rattle.graph.proofs.Lists.{all_same, in_at, place_of, in_left, in_right, in_push, distinct_push, distinct_few}
 
 -- how the search came to a node: it is the start, or an edge led to it from a node one edge nearer to the start
 abbrev pub Came : Relation → ℕ → Found → ℕ → Type 0
@@ -31,18 +31,11 @@ pub record Reached (E : Relation) (size start goal : ℕ) (f : Found) : Type 0 w
   pub shallow : (n : ℕ) → n ∈ f.order.items → depth_of f n < length f.order.items
   pub short_of : (n : ℕ) → n ∈ f.order.items → n ≡ goal → n ≡ start
 
--- at first no node leads to another
-none_reached : (n : ℕ) → get_or (replicate 64 unreached) n unreached ≡ unreached
-none_reached n = elim (cases_lt n 64) [
-  | inl l ↦ get_or-replicate 64 n unreached unreached l
-  | inr l ↦ get_or-eq_default (replicate 64 unreached) unreached l
-]
-
 module _ (E : Relation) (size start goal : ℕ) (few : size ≤ 64) where
   pub reached_start : (f : Found) → start < size → Starts start f → Reached E size start goal f
   reached_start f l s =
       let only : (n : ℕ) → n ∈ f.order.items → n ≡ start = λ n i. ⊎_elim (λ e. e) (λ b. absurd b) (rw s.order at i) in
-      let none : (n : ℕ) → get_or f.reach n unreached ≡ unreached = λ n. rw s.reach (none_reached n) in
+      let none : (n : ℕ) → get_or f.reach n unreached ≡ unreached = λ n. rw s.reach (all_same 64 n unreached) in
       let depth : (n : ℕ) → depth_of f n ≡ 0 = λ n. ap (λ (r : Reach). r.depth) (none n) in
       record {
         places = ap length s.reach;

@@ -92,16 +92,16 @@ pub keeps_retire : (H : List Act) (l : Ledger) → Keeps H l → Keeps (H ++ Ret
 keeps_retire H l k = keeps_still H Retire l k refl refl (λ i f. refl)
 
 committed_opened : Fate.committed ≡ Fate.unopened → ⊥
-committed_opened e = let z : ◌≡◌ {A = ℕ} 0 1 = cc in omega arith
+committed_opened e = cc
 
 committed_ended : Fate.committed ≡ Fate.running → ⊥
-committed_ended e = let z : ◌≡◌ {A = ℕ} 0 1 = cc in omega arith
+committed_ended e = cc
 
 aborted_opened : Fate.aborted ≡ Fate.unopened → ⊥
-aborted_opened e = let z : ◌≡◌ {A = ℕ} 0 1 = cc in omega arith
+aborted_opened e = cc
 
 aborted_ended : Fate.aborted ≡ Fate.running → ⊥
-aborted_ended e = let z : ◌≡◌ {A = ℕ} 0 1 = cc in omega arith
+aborted_ended e = cc
 
 -- an act that ends the job at a node
 module _ (H : List Act) (act : Act) (l : Ledger) (k : Keeps H l) (node j : ℕ) (b : node < (count l)) (e : number_at l node ≡ j)
@@ -181,7 +181,7 @@ occurs_used i (a ∷ s) (inl e) = (a.writes, a.item, inl (e, refl, refl))
 occurs_used i (a ∷ s) (inr h) = let u = occurs_used i s h in (u.0, u.1, inr u.2)
 
 running_opened : Fate.running ≡ Fate.unopened → ⊥
-running_opened e = let z : ◌≡◌ {A = ℕ} 0 1 = cc in omega arith
+running_opened e = cc
 
 -- a job is opened at the next node
 module _ (H : List Act) (l : Ledger) (k : Keeps H l) (j : ℕ) (new : fate j H ≡ Fate.unopened) (room : count l < 64) where

@@ -1,9 +1,9 @@
 -- The acts of the first steps, one step more.
 use Rattle.std.proofs.Common.{◌≡◌, ℕ, ◌+◌, ◌<◌, ◌≤◌, List, [], ◌∷◌, ◌++◌, length, get_or, take, Ok, Err, Result, sym, refl, ap, ◌∙◌, subst, arith, below_more}
 use Rattle.std.proofs.lemmas.Bool.{both_ways}
-use Rattle.std.proofs.lemmas.List.{get_or-replicate, get_or-map, take-map, take_more, take_all, length-map, length-take-le}
+use Rattle.std.proofs.lemmas.List.{get_or-map, take-map, take_more, take_all, length-map, length-take-le}
 use Rattle.graph.specs.Nodes.{has}
-use Rattle.graph.proofs.Lists.{zeros}
+use Rattle.graph.proofs.Lists.{all_same}
 use Rattle.graph.proofs.Words.{bit_none}
 use Rattle.trace.specs.declared.act.Act.TheVariants.{Retire}
 use Rattle.trace.specs.declared.act.Step.{Step}
@@ -41,8 +41,8 @@ keeps_none = record {
   running = record { only = λ p t. absurd (both_ways (has 0 p) (bit_none p) t); all = λ p b q. absurd (omega arith) };
   kept = record { only = λ p t. absurd (both_ways (has 0 p) (bit_none p) t); all = λ p b q. absurd (omega arith) };
   edges = λ q b. absurd (omega arith);
-  empty = λ p q b. ap (λ row. has row p) (zeros 64 q) ∙ bit_none p;
-  items = λ x b. subst (UsersOf [] [] x) (sym (get_or-replicate 64 x no_users no_users b)) (users_none [] x);
+  empty = λ p q b. ap (λ row. has row p) (all_same 64 q 0) ∙ bit_none p;
+  items = λ x b. subst (UsersOf [] [] x) (sym (all_same 64 x no_users)) (users_none [] x);
 }
 
 -- what has been read when the first i steps are taken

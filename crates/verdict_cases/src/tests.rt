@@ -61,8 +61,8 @@ fn an_order_goes_by_edges_and_then_by_number(rt: HostRuntime) {
 
 fn opens() -> [Step; 65] {
     let mut steps = [step(Act::Retire); 65];
-    for job in 0..65 {
-        steps[job as usize] = step(Act::Open { job });
+    for (job, place) in (0..65).zip(steps.iter_mut()) {
+        *place = step(Act::Open { job });
     }
     steps
 }
