@@ -126,26 +126,3 @@ module _ (t : Tables) (sound : Sound t) (j k number : ℕ) (is : k ≡ slot_of j
       values = refl;
       room = refl;
     })
-
-    taken_still : (a : ℕ) → (a ≡ k → ⊥) → Taken t.jobs.slots a → Taken slots' a
-    taken_still a d h = ap (λ (s : Slot). taken s.status) (at_other a d) ∙ h
-
-    -- what passes the test for being left does not stand at slot k
-    kept : (a : ℕ) (b : Bool) → (not (eqb a k) && b) ≡ true → (a ≡ k → ⊥) × (b ≡ true)
-    kept a b e = let p = and_parts (not (eqb a k)) b e in (eqb-false a k (not-true _ p.0), p.1)
-
-    pub removed_sound : Sound (without_slot t k number rows' items')
-    unfolding slots'
-    removed_sound = (
-      (length', edges.0 ∙ sound.0.1, items.0 ∙ sound.0.2, sound.0.3),
-      ((λ a b i e f. sound.1.0 a b i (belongs_still a i e).1 (belongs_still b i f).1), (λ a i e. sound.1.1 a i (belongs_still a i e).1)),
-      (
-        (λ a b e.
-            let p = kept b _ (sym (edges.1 b a) ∙ e) in
-            let q = kept a _ p.1 in
-            let m = sound.2.0 a b q.1 in
-            (taken_still a q.0 m.0, taken_still b p.0 m.1)),
-        (λ x a e. let p = kept a _ (sym ((items.1 x).1 a) ∙ e) in taken_still a p.0 (sound.2.1 x a p.1)),
-        (λ x a e. let p = kept a _ (sym ((items.1 x).2 a) ∙ e) in taken_still a p.0 (sound.2.2 x a p.1)),
-      ),
-    )

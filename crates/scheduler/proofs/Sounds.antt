@@ -45,9 +45,6 @@ row_without_none k b a = bit_none a ∙ sym (ap (λ c. not (eqb b k) && c) (sym 
 pub item_without_idle : (j k : ℕ) → ℕ → ItemWithout j k idle idle
 item_without_idle j k x = (refl, set_without_none k, set_without_none k)
 
-pub item_let_go_idle : (j : ℕ) → ℕ → ItemLetGo j idle idle
-item_let_go_idle j x = (refl, refl, refl)
-
 module _ (t : Tables) (sound : Sound t) where
   pub taken_within : (k : ℕ) → Taken t.jobs.slots k → k < 32
   taken_within k h = elim (cases_lt k 32) [

@@ -1,7 +1,7 @@
 use Rattle.std.proofs.Common.{length, ap, ◌∙◌}
 use Rattle.std.proofs.lemmas.Result.{err_from_is_err_and}
 use Rattle.scheduler.specs.Reading.{held_below}
-use Rattle.scheduler.proofs.Cored.{held_holdings}
+use Rattle.scheduler.proofs.Commits.{held_holdings}
 use Rattle.scheduler.proofs.Ends.{stopped_status, runs_status}
 use Rattle.scheduler.proofs.hub_core.Core.count_held.Goals as goal
 
