@@ -1,7 +1,7 @@
 -- A step that is granted: what the tables stand for after it. Assumes nothing.
-use Rattle.std.proofs.Common.{◌≡◌, ℕ, ◌<◌, Bool, true, false, ◌&&◌, ◌||◌, eqb, ltb, List, set, Some, sym, refl, ap, ◌∙◌, subst, inl, inr, arith}
-use Rattle.std.proofs.lemmas.Bool.{cases_eq, eqb-true, and_parts, or_cases, lt-ltb}
-use Rattle.std.proofs.lemmas.List.{get_or-set_same, get_or-set_other, length-set}
+use Rattle.std.proofs.Common.{◌≡◌, ℕ, ◌<◌, Bool, true, false, ◌&&◌, ◌||◌, eqb, List, set, Some, sym, refl, ap, ◌∙◌, inl, inr, arith}
+use Rattle.std.proofs.lemmas.Bool.{cases_eq, lt-ltb}
+use Rattle.std.proofs.lemmas.List.{get_or-set_same, get_or-set_other}
 use Rattle.graph.specs.Nodes.{has}
 use Rattle.history.specs.Machine.{has_read, has_written, granted_state, put_at, with_one}
 use Rattle.scheduler.specs.Accesses.{writes, asked, SetWith, ItemNoted}
@@ -10,10 +10,9 @@ use Rattle.scheduler.specs.declared.items.Access.TheVariants.{Read, Write}
 use Rattle.scheduler.specs.declared.tables.ItemState.{ItemState}
 use Rattle.scheduler.specs.declared.tables.Tables.{Tables}
 use Rattle.scheduler.specs.Slots.{slot_of}
-use Rattle.scheduler.specs.Reading.{idle, item, row, state, Taken, Sound}
+use Rattle.scheduler.specs.Reading.{idle, item, row, state, Sound}
 use Rattle.scheduler.specs.Marks.{Sources, slot_edge}
-use Rattle.scheduler.proofs.Draws.{row_drawn, tell, mine, edge_taken, drawn_slots}
-use Rattle.scheduler.proofs.Sounds.{belongs_taken}
+use Rattle.scheduler.proofs.Draws.{row_drawn, tell, drawn_slots}
 use Rattle.scheduler.proofs.States.{same_state, put_same, put_other}
 
 -- the tables with these marks in row k, and item x like this

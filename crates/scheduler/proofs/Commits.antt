@@ -11,7 +11,7 @@ use Rattle.scheduler.specs.declared.slots.SlotStatus.TheVariants.{Committed}
 use Rattle.scheduler.specs.declared.tables.ItemState.{ItemState}
 use Rattle.scheduler.specs.declared.tables.Tables.{Tables}
 use Rattle.scheduler.specs.Slots.{status_of, taken, belongs, free_slot, slot, slot_of}
-use Rattle.scheduler.specs.Reading.{idle, item, row, state, Taken, Sound, RunsAt, held_below}
+use Rattle.scheduler.specs.Reading.{idle, item, row, state, Sound, RunsAt, held_below}
 use Rattle.scheduler.specs.Marks.{ItemsLetGo}
 use Rattle.scheduler.proofs.Draws.{tell}
 use Rattle.scheduler.proofs.JobSlots.{first_same}

@@ -1,6 +1,6 @@
 -- A job taken out of the tables. Assumes nothing.
 use Rattle.std.proofs.Common.{◌≡◌, ℕ, ◌<◌, Bool, true, false, not, ◌&&◌, eqb, List, length, set, sym, refl, ap, ◌∙◌, subst, inl, inr, arith}
-use Rattle.std.proofs.lemmas.Bool.{cases_eq, eq-eqb, ne_eqb, and_parts, both_ways, not-true, eqb-false}
+use Rattle.std.proofs.lemmas.Bool.{cases_eq, eq-eqb, ne_eqb, both_ways}
 use Rattle.std.proofs.lemmas.List.{get_or-set_same, get_or-set_other, length-set}
 use Rattle.graph.specs.Nodes.{has}
 use Rattle.history.specs.Machine.{Status, absent, removed, put_at}
@@ -9,7 +9,7 @@ use Rattle.scheduler.specs.declared.slots.SlotStatus.TheVariants.{Free}
 use Rattle.scheduler.specs.declared.tables.ItemState.{ItemState}
 use Rattle.scheduler.specs.declared.tables.Tables.{Tables}
 use Rattle.scheduler.specs.Slots.{status_of, taken, belongs, free_slot, slot, slot_of}
-use Rattle.scheduler.specs.Reading.{item, row, state, Taken, Sound}
+use Rattle.scheduler.specs.Reading.{item, row, state, Sound}
 use Rattle.scheduler.specs.Marks.{EdgesWithout, ItemsWithout}
 use Rattle.scheduler.proofs.JobSlots.{first_none, first_same}
 use Rattle.scheduler.proofs.Sounds.{belongs_number, free_belongs, false_since, and_false, free_no_edge, free_no_row, free_no_reader, free_no_writer, slot_mine, slots_tell, slot_past}

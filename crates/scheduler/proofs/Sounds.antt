@@ -8,7 +8,7 @@ use Rattle.scheduler.specs.declared.slots.Slot.{Slot}
 use Rattle.scheduler.specs.declared.tables.Tables.{Tables}
 use Rattle.scheduler.specs.Slots.{taken, belongs, free_slot, slot, slot_of}
 use Rattle.scheduler.specs.Reading.{idle, item, row, Taken, Sound}
-use Rattle.scheduler.specs.Marks.{RowWithout, SetWithout, ItemWithout, ItemLetGo}
+use Rattle.scheduler.specs.Marks.{RowWithout, SetWithout, ItemWithout}
 use Rattle.scheduler.proofs.JobSlots.{first_passes, first_only}
 
 -- a test that would make another true is false

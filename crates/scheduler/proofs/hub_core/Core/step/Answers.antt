@@ -1,5 +1,4 @@
-use Rattle.std.proofs.Common.{◌<◌, min, ap, ◌∙◌, arith}
-use Rattle.std.proofs.lemmas.Result.{err_from_is_err_and}
+use Rattle.std.proofs.Common.{rules, ◌<◌, min, ap, ◌∙◌, arith}
 use Rattle.scheduler.specs.Accesses.{writes}
 use Rattle.scheduler.specs.Reading.{row}
 use Rattle.scheduler.proofs.Accesses.{noted_state}
@@ -8,8 +7,7 @@ use Rattle.scheduler.proofs.Permits.{step_barred, step_closes, step_granted}
 use Rattle.scheduler.proofs.hub_core.Core.step.Goals as goal
 
 pub returns-in_err-slot-clause-leads : goal.returns-in_err-slot-clause-leads
-returns-in_err-slot-clause-leads c = let p = err_from_is_err_and c.from_residual.result c.from_residual.ensures.1 in rw (p.1, p.2)
-    (λ values room is. step_barred c.args.self.now.tables c.args.job c.args.item (min 64 c.args.items) c.args.access values room (ap (min 64) is) _ c.in_err-slot.ensures)
+returns-in_err-slot-clause-leads c = search (rules, step_barred)
 
 pub returns-then-closes_cycle-clause-leads : goal.returns-then-closes_cycle-clause-leads
 returns-then-closes_cycle-clause-leads c values room is =
