@@ -1,6 +1,6 @@
 -- A job taken out of the tables. Assumes nothing.
 use Rattle.std.proofs.Common.{◌≡◌, ℕ, ◌<◌, Bool, true, false, not, ◌&&◌, eqb, List, length, set, sym, refl, ap, ◌∙◌, subst, inl, inr, arith}
-use Rattle.std.proofs.lemmas.Bool.{cases_eq, eq-eqb, ne_eqb, both_ways}
+use Rattle.std.proofs.lemmas.Bool.{cases_eq, eq-eqb, ne_eqb, and_parts, both_ways, not-true, eqb-false}
 use Rattle.std.proofs.lemmas.List.{get_or-set_same, get_or-set_other, length-set}
 use Rattle.graph.specs.Nodes.{has}
 use Rattle.history.specs.Machine.{Status, absent, removed, put_at}
@@ -9,7 +9,7 @@ use Rattle.scheduler.specs.declared.slots.SlotStatus.TheVariants.{Free}
 use Rattle.scheduler.specs.declared.tables.ItemState.{ItemState}
 use Rattle.scheduler.specs.declared.tables.Tables.{Tables}
 use Rattle.scheduler.specs.Slots.{status_of, taken, belongs, free_slot, slot, slot_of}
-use Rattle.scheduler.specs.Reading.{item, row, state, Sound}
+use Rattle.scheduler.specs.Reading.{item, row, state, Taken, Sound}
 use Rattle.scheduler.specs.Marks.{EdgesWithout, ItemsWithout}
 use Rattle.scheduler.proofs.JobSlots.{first_none, first_same}
 use Rattle.scheduler.proofs.Sounds.{belongs_number, free_belongs, false_since, and_false, free_no_edge, free_no_row, free_no_reader, free_no_writer, slot_mine, slots_tell, slot_past}
@@ -126,3 +126,26 @@ module _ (t : Tables) (sound : Sound t) (j k number : ℕ) (is : k ≡ slot_of j
       values = refl;
       room = refl;
     })
+
+    taken_still : (a : ℕ) → (a ≡ k → ⊥) → Taken t.jobs.slots a → Taken slots' a
+    taken_still a d h = ap (λ (s : Slot). taken s.status) (at_other a d) ∙ h
+
+    -- what passes the test for being left does not stand at slot k
+    kept : (a : ℕ) (b : Bool) → (not (eqb a k) && b) ≡ true → (a ≡ k → ⊥) × (b ≡ true)
+    kept a b e = let p = and_parts (not (eqb a k)) b e in (eqb-false a k (not-true _ p.0), p.1)
+
+    pub removed_sound : Sound (without_slot t k number rows' items')
+    unfolding slots'
+    removed_sound = (
+      (length', edges.0 ∙ sound.0.1, items.0 ∙ sound.0.2, sound.0.3),
+      ((λ a b i e f. sound.1.0 a b i (belongs_still a i e).1 (belongs_still b i f).1), (λ a i e. sound.1.1 a i (belongs_still a i e).1)),
+      (
+        (λ a b e.
+            let p = kept b _ (sym (edges.1 b a) ∙ e) in
+            let q = kept a _ p.1 in
+            let m = sound.2.0 a b q.1 in
+            (taken_still a q.0 m.0, taken_still b p.0 m.1)),
+        (λ x a e. let p = kept a _ (sym ((items.1 x).1 a) ∙ e) in taken_still a p.0 (sound.2.1 x a p.1)),
+        (λ x a e. let p = kept a _ (sym ((items.1 x).2 a) ∙ e) in taken_still a p.0 (sound.2.2 x a p.1)),
+      ),
+    )

@@ -10,8 +10,8 @@ use super::tables::{FREE, IDLE, JobTable, Tables};
 use history::refusal::Refusal;
 
 impl Core {
-    #[tactic(auto, using(crate::proofs::Makes::fresh_state))]
     // A scheduler with no job present, which gives this number to the first one.
+    #[tactic(auto, using(crate::proofs::Makes::fresh_state))]
     pub fn new(first: u32) -> Core
         ensures { (values : List ℕ) (room : ℕ) → machine result values room ≡ made 32 first values room }
     {
