@@ -1,7 +1,7 @@
 -- A step that is granted: what the tables stand for after it. Assumes nothing.
-use Rattle.std.proofs.Common.{◌≡◌, ℕ, ◌<◌, Bool, true, false, ◌&&◌, ◌||◌, eqb, ltb, List, set, Some, sym, refl, ap, ◌∙◌, subst, inl, inr, arith}
-use Rattle.std.proofs.lemmas.Bool.{cases_eq, eqb-true, and_parts, or_cases, lt-ltb}
-use Rattle.std.proofs.lemmas.List.{get_or-set_same, get_or-set_other, length-set}
+use Rattle.std.proofs.Common.{◌≡◌, ℕ, ◌<◌, Bool, true, false, ◌&&◌, ◌||◌, eqb, List, set, Some, sym, refl, ap, ◌∙◌, inl, inr, arith}
+use Rattle.std.proofs.lemmas.Bool.{cases_eq, lt-ltb}
+use Rattle.std.proofs.lemmas.List.{get_or-set_same, get_or-set_other}
 use Rattle.graph.specs.Nodes.{has}
 use Rattle.history.specs.Machine.{has_read, has_written, granted_state, put_at, with_one}
 use Rattle.scheduler.specs.Accesses.{writes, asked, SetWith, ItemNoted}
@@ -10,10 +10,9 @@ use Rattle.scheduler.specs.declared.items.Access.TheVariants.{Read, Write}
 use Rattle.scheduler.specs.declared.tables.ItemState.{ItemState}
 use Rattle.scheduler.specs.declared.tables.Tables.{Tables}
 use Rattle.scheduler.specs.Slots.{slot_of}
-use Rattle.scheduler.specs.Reading.{idle, item, row, state, Taken, Sound}
+use Rattle.scheduler.specs.Reading.{idle, item, row, state, Sound}
 use Rattle.scheduler.specs.Marks.{Sources, slot_edge}
-use Rattle.scheduler.proofs.Draws.{row_drawn, tell, mine, edge_taken, drawn_slots}
-use Rattle.scheduler.proofs.Sounds.{belongs_taken}
+use Rattle.scheduler.proofs.Draws.{row_drawn, tell, drawn_slots}
 use Rattle.scheduler.proofs.States.{same_state, put_same, put_other}
 
 -- the tables with these marks in row k, and item x like this
@@ -42,23 +41,6 @@ module _ (t : Tables) (sound : Sound t) (j k : ℕ) (is : k ≡ slot_of j t.jobs
       item_other : (y : ℕ) → (y ≡ x → ⊥) → item (set t.items x it) y ≡ item t.items y
       item_other y d = get_or-set_other t.items x y it idle d
 
-      pub stepped_sound : ((a : ℕ) → has it.readers a ≡ true → Taken t.jobs.slots a) → ((a : ℕ) → has it.writers a ≡ true → Taken t.jobs.slots a) → Sound (stepped t k marks x it)
-      stepped_sound readers writers = (
-        (sound.0.0, length-set t.jobs.edges k marks ∙ sound.0.1, length-set t.items x it ∙ sound.0.2, sound.0.3),
-        sound.1,
-        (
-          (λ a b e. edge_taken t sound j k is within x from writes sources a b (sym (drawn_row a b) ∙ e)),
-          (λ y a e. elim (cases_eq y x) [
-            | inl s ↦ readers a (sym (ap (λ (i : ItemState). has i.readers a) (item_x y s)) ∙ e)
-            | inr d ↦ sound.2.1 y a (sym (ap (λ (i : ItemState). has i.readers a) (item_other y d)) ∙ e)
-          ]),
-          (λ y a e. elim (cases_eq y x) [
-            | inl s ↦ writers a (sym (ap (λ (i : ItemState). has i.writers a) (item_x y s)) ∙ e)
-            | inr d ↦ sound.2.2 y a (sym (ap (λ (i : ItemState). has i.writers a) (item_other y d)) ∙ e)
-          ]),
-        ),
-      )
-
       -- a part of the items is as it was but at item x
       at_items : {A : Type 0} (part : ItemState → A) (new : A) → part it ≡ new → (y : ℕ) → part (item (set t.items x it) y) ≡ put_at x new (λ z. part (item t.items z)) y
       at_items part new e y = elim (cases_eq y x) [
@@ -84,23 +66,7 @@ module _ (t : Tables) (sound : Sound t) (j k : ℕ) (is : k ≡ slot_of j t.jobs
       ∙ ap (λ c. has set (slot_of i t.jobs.slots) || c) (tell t sound j k is within i)
       ∙ or_swap (has set (slot_of i t.jobs.slots)) (eqb i j)
 
-  added_taken : (set set' : ℕ) → SetWith k set set' → ((a : ℕ) → has set a ≡ true → Taken t.jobs.slots a) → (a : ℕ) → has set' a ≡ true → Taken t.jobs.slots a
-  added_taken set set' added old a e = elim (or_cases (has set a) _ (sym (added a) ∙ e)) [
-    | inl h ↦ old a h
-    | inr h ↦ subst (Taken t.jobs.slots) (sym (eqb-true a k (and_parts (ltb k 64) (eqb a k) h).1)) (belongs_taken j _ (mine t sound j k is within))
-  ]
-
   module _ (x from marks : ℕ) (low : x < 64) (joined : (a : ℕ) → has marks a ≡ (has (row t.jobs.edges k) a || has from a)) (it : ItemState) where
-    pub noted_sound : (a : Access) → Sources (item t.items x) (writes a) k from → ItemNoted a j k (item t.items x) it → Sound (stepped t k marks x it)
-    noted_sound Read sources (held, readers, writers) =
-        stepped_sound x from marks false sources low joined it
-        (added_taken (item t.items x).readers it.readers readers (sound.2.1 x))
-        (λ a e. sound.2.2 x a (sym (ap (λ w. has w a) writers) ∙ e))
-    noted_sound (Write v) sources (held, readers, writers) =
-        stepped_sound x from marks true sources low joined it
-        (λ a e. sound.2.1 x a (sym (ap (λ w. has w a) readers) ∙ e))
-        (added_taken (item t.items x).writers it.writers writers (sound.2.2 x))
-
     pub noted_state : (a : Access) → Sources (item t.items x) (writes a) k from → ItemNoted a j k (item t.items x) it → (values : List ℕ) (room left : ℕ) → state (stepped t k marks x it) values room ≡ granted_state (state t values room) (asked j x a) left
     unfolding state has_read has_written granted_state
     noted_state Read sources (held, readers, writers) values room left = same_state _ _ (record {

@@ -1,5 +1,5 @@
 -- Commit: how many items the job holds, and what the tables stand for afterwards. Assumes nothing.
-use Rattle.std.proofs.Common.{◌≡◌, ℕ, zero, suc, ◌+◌, ◌≤◌, Bool, true, false, cond, ◌&&◌, eqb, List, [], ◌∷◌, ◌++◌, length, take, set, sym, refl, ap, ◌∙◌, subst, inl, inr, add-zero, add-one, arith}
+use Rattle.std.proofs.Common.{◌≡◌, ℕ, zero, suc, ◌+◌, ◌≤◌, min, Bool, true, false, cond, ◌&&◌, eqb, List, [], ◌∷◌, ◌++◌, length, take, set, sym, refl, ap, ◌∙◌, subst, inl, inr, add-zero, add-one, arith}
 use Rattle.std.proofs.lemmas.Bool.{cases_Bool, cases_eq, eq-eqb, ne_eqb, both_ways}
 use Rattle.std.proofs.lemmas.List.{get_or-set_same, get_or-set_other, length-set, length-append}
 use Rattle.std.proofs.lemmas.List.Sums.{count_by_more_yes, count_by_more_no}
@@ -11,7 +11,7 @@ use Rattle.scheduler.specs.declared.slots.SlotStatus.TheVariants.{Committed}
 use Rattle.scheduler.specs.declared.tables.ItemState.{ItemState}
 use Rattle.scheduler.specs.declared.tables.Tables.{Tables}
 use Rattle.scheduler.specs.Slots.{status_of, taken, belongs, free_slot, slot, slot_of}
-use Rattle.scheduler.specs.Reading.{idle, item, row, state, Taken, Sound, RunsAt, held_below}
+use Rattle.scheduler.specs.Reading.{idle, item, row, state, Sound, RunsAt, held_below}
 use Rattle.scheduler.specs.Marks.{ItemsLetGo}
 use Rattle.scheduler.proofs.Draws.{tell}
 use Rattle.scheduler.proofs.JobSlots.{first_same}
@@ -67,6 +67,13 @@ count_held t j (suc n) h =
       | inr e ↦ count_by_more_no test t.items n idle (omega arith) e ∙ rest ∙ sym (ap length (those_next_out (λ x. holds j (item t.items x).held) n e))
     ])
 
+-- the items of a store with so many that a job holds
+pub held_holdings : (t : Tables) (j n count : ℕ) (values : List ℕ) (room : ℕ) → n ≡ length values → count ≡ length (held_below t j (min n 64)) → count ≡ length (holdings (state t values room) j)
+unfolding holdings state
+held_holdings t j n count values room e f =
+    let same : min n 64 ≡ min 64 (length values) = omega arith in
+    f ∙ ap (λ m. length (held_below t j m)) same
+
 -- the tables with slot k committed, and these items
 abbrev pub closed : Tables → ℕ → ℕ → List ItemState → Tables
 closed t k number items = record {
@@ -104,13 +111,6 @@ module _ (t : Tables) (sound : Sound t) (j k : ℕ) (runs : RunsAt t j k) where
     | inr d ↦ ap (belongs i) (at_other a d)
   ]
 
-  same_taken : (a : ℕ) → Taken t.jobs.slots a → Taken slots' a
-  unfolding new
-  same_taken a h = elim (cases_eq a k) [
-    | inl e ↦ ap (λ (s : Slot). taken s.status) (ap (slot slots') e ∙ at_k)
-    | inr d ↦ ap (λ (s : Slot). taken s.status) (at_other a d) ∙ h
-  ]
-
   same_slot : (i : ℕ) → slot_of i slots' ≡ slot_of i t.jobs.slots
   same_slot i = first_same (belongs i) slots' t.jobs.slots (length' ∙ sym sound.0.0) (λ a _. same_owner i a)
 
@@ -129,18 +129,6 @@ module _ (t : Tables) (sound : Sound t) (j k : ℕ) (runs : RunsAt t j k) where
   ]
 
   module _ (items' : List ItemState) (let_go : ItemsLetGo j t.items items') where
-    pub ended_sound : Sound (closed t k (slot t.jobs.slots k).job items')
-    unfolding slots' new
-    ended_sound = (
-      (length', sound.0.1, let_go.0 ∙ sound.0.2, sound.0.3),
-      ((λ a b i e f. sound.1.0 a b i (sym (same_owner i a) ∙ e) (sym (same_owner i b) ∙ f)), (λ a i e. sound.1.1 a i (sym (same_owner i a) ∙ e))),
-      (
-        (λ a b e. let m = sound.2.0 a b e in (same_taken a m.0, same_taken b m.1)),
-        (λ x a e. same_taken a (sound.2.1 x a (sym (ap (λ w. has w a) (let_go.1 x).1) ∙ e))),
-        (λ x a e. same_taken a (sound.2.2 x a (sym (ap (λ w. has w a) (let_go.1 x).2) ∙ e))),
-      ),
-    )
-
     pub ended_state : (values : List ℕ) (room left : ℕ) → state (closed t k (slot t.jobs.slots k).job items') (put_all (state t values room).held (holdings (state t values room) j) values) left ≡ has_ended j left (state t values room)
     unfolding state has_ended slots' new
     ended_state values room left = same_state _ _ (record {

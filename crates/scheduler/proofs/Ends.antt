@@ -6,12 +6,12 @@ use Rattle.history.specs.Machine.{not_running, abort, refusal, granted_answer, g
 use Rattle.scheduler.specs.declared.slots.Slot.{Slot}
 use Rattle.scheduler.specs.declared.tables.Tables.{Tables}
 use Rattle.scheduler.specs.Slots.{status_of, slot, slot_of}
-use Rattle.scheduler.specs.Reading.{state, Sound, RunsAt, Stopped}
+use Rattle.scheduler.specs.Reading.{state, RunsAt, Stopped}
 use Rattle.scheduler.proofs.Sounds.{slot_past}
 use Rattle.scheduler.proofs.States.{steps_refused, steps_granted}
 
-pub missing_stopped : (t : Tables) → Sound t → (j : ℕ) → slot_of j t.jobs.slots ≡ length t.jobs.slots → Stopped t j NotPresent
-missing_stopped t sound j h = ap (λ (s : Slot). not_running (status_of s.status)) (slot_past t.jobs.slots (slot_of j t.jobs.slots) (omega arith))
+pub missing_stopped : (t : Tables) (j : ℕ) → slot_of j t.jobs.slots ≡ length t.jobs.slots → Stopped t j NotPresent
+missing_stopped t j h = ap (λ (s : Slot). not_running (status_of s.status)) (slot_past t.jobs.slots (slot_of j t.jobs.slots) (omega arith))
 
 module _ (t : Tables) (j : ℕ) (values : List ℕ) (room : ℕ) where
   pub stopped_status : (r : Refusal) → Stopped t j r → not_running ((state t values room).status j) ≡ Some r

@@ -1,6 +1,5 @@
 pub mod Accesses
 pub mod Commits
-pub mod Cored
 pub mod Counting
 pub mod Draws
 pub mod Ends

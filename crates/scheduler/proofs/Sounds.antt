@@ -8,7 +8,7 @@ use Rattle.scheduler.specs.declared.slots.Slot.{Slot}
 use Rattle.scheduler.specs.declared.tables.Tables.{Tables}
 use Rattle.scheduler.specs.Slots.{taken, belongs, free_slot, slot, slot_of}
 use Rattle.scheduler.specs.Reading.{idle, item, row, Taken, Sound}
-use Rattle.scheduler.specs.Marks.{RowWithout, SetWithout, ItemWithout, ItemLetGo}
+use Rattle.scheduler.specs.Marks.{RowWithout, SetWithout, ItemWithout}
 use Rattle.scheduler.proofs.JobSlots.{first_passes, first_only}
 
 -- a test that would make another true is false
@@ -44,9 +44,6 @@ row_without_none k b a = bit_none a ∙ sym (ap (λ c. not (eqb b k) && c) (sym 
 
 pub item_without_idle : (j k : ℕ) → ℕ → ItemWithout j k idle idle
 item_without_idle j k x = (refl, set_without_none k, set_without_none k)
-
-pub item_let_go_idle : (j : ℕ) → ℕ → ItemLetGo j idle idle
-item_let_go_idle j x = (refl, refl, refl)
 
 module _ (t : Tables) (sound : Sound t) where
   pub taken_within : (k : ℕ) → Taken t.jobs.slots k → k < 32

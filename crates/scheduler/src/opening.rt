@@ -11,6 +11,7 @@ use history::refusal::Refusal;
 
 impl Core {
     // A scheduler with no job present, which gives this number to the first one.
+    #[tactic(auto, using(crate::proofs::Makes::fresh_state))]
     pub fn new(first: u32) -> Core
         ensures { (values : List ℕ) (room : ℕ) → machine result values room ≡ made 32 first values room }
     {

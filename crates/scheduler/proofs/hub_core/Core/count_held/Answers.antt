@@ -1,13 +1,11 @@
-use Rattle.std.proofs.Common.{length, ap, ◌∙◌}
-use Rattle.std.proofs.lemmas.Result.{err_from_is_err_and}
+use Rattle.std.proofs.Common.{rules, length, ap, ◌∙◌}
 use Rattle.scheduler.specs.Reading.{held_below}
-use Rattle.scheduler.proofs.Cored.{held_holdings}
+use Rattle.scheduler.proofs.Commits.{held_holdings}
 use Rattle.scheduler.proofs.Ends.{stopped_status, runs_status}
 use Rattle.scheduler.proofs.hub_core.Core.count_held.Goals as goal
 
 pub returns-in_err-running : goal.returns-in_err-running
-returns-in_err-running c = let p = err_from_is_err_and c.from_residual.result c.from_residual.ensures.1 in rw (p.1, p.2)
-    (λ values room _. stopped_status c.args.self.now.tables c.args.job values room _ c.in_err-running.ensures)
+returns-in_err-running c = search (rules, stopped_status)
 
 pub returns : goal.returns
 returns c values room e = (
