@@ -5,9 +5,9 @@ use Rattle.std.proofs.lemmas.List.{append_assoc, drop_more, set-append_right, ta
 use Rattle.trace.specs.declared.act.Act.{Act}
 use Rattle.history.specs.declared.answer.Answer.{Answer as Told}
 use Rattle.history.specs.declared.refusal.Refusal.{Refusal}
-use Rattle.history.specs.Machine.{State, made, Call, Answer, answered, done, wrote, refused, answer, Steps}
+use Rattle.history.specs.Machine.{State, made, Call, Answer, answer, Steps}
 use Rattle.history.specs.Runs.{Turn}
-use Rattle.history.specs.Acting.{call_of, calls_of, told_of, Takes}
+use Rattle.history.specs.Acting.{call_of, calls_of, Takes}
 use Rattle.history.proofs.Acting.{Going, going_turn}
 use Rattle.hub.specs.InMemory.{plenty, zeros, start}
 use Rattle.entry.specs.declared.request.Request.{Request}
@@ -15,13 +15,6 @@ use Rattle.entry.specs.declared.request.Reply.{Reply}
 use Rattle.entry.specs.Requests.{act_of, known}
 use Rattle.entry.specs.Playing.{reply, reply_of, replies_of, Plays, PlaysAll}
 use Rattle.entry.proofs.Requests.{blank, known_more}
-
--- the reply to what is told is that to the answer
-reply_told : (a : Answer) → reply_of (told_of a) ≡ reply a
-reply_told (answered n) = refl
-reply_told done = refl
-reply_told (wrote js) = refl
-reply_told (refused r) = refl
 
 length_replies : (us : List Turn) → length (replies_of us) ≡ length us
 length_replies [] = refl
@@ -77,7 +70,7 @@ module _ (s : State) (qs : List Request) (lent : List Reply) (h : State) (i : �
       → ReplyingOn s qs lent h i replies → ReplyingOn s qs lent t (i + 1) (set replies i r)
   replying_more a places left told r t l m e n room q is so_far =
       replying_turn (call_of 32 a) (calls_of 32 (known (drop (i + 1) qs))) q.answer r t (omega arith) room
-      (subst (λ (k : ℕ). Steps h (call_of k a) q.answer t) n q.steps) (is ∙ ap reply_of q.told ∙ reply_told q.answer)
+      (subst (λ (k : ℕ). Steps h (call_of k a) q.answer t) n q.steps) (is ∙ ap reply_of q.told)
       (subst (λ (z : List Act). Replying s (calls_of 32 (known qs)) lent h i (calls_of 32 z) replies) (known_more qs i a l e) so_far)
 
 -- the requests that have a place are the front of the list
