@@ -1,27 +1,20 @@
 -- Requests made on a hub, one after another.
-use Rattle.std.proofs.Common.{◌≡◌, ℕ, suc, ◌+◌, ◌-◌, ◌<◌, ◌≤◌, min, List, [], ◌∷◌, ◌++◌, length, get_or, take, drop, set, replicate, Some, Result, sym, refl, ap, ◌∙◌, subst, inl, inr, arith, length-append}
-use Rattle.std.proofs.lemmas.Bool.{cases_lt}
-use Rattle.std.proofs.lemmas.List.{append_assoc, drop_more, set-append_right, take_all}
+use Rattle.std.proofs.Common.{◌≡◌, ℕ, suc, ◌+◌, ◌<◌, ◌≤◌, min, List, [], ◌∷◌, ◌++◌, length, get_or, take, drop, set, replicate, Some, Result, refl, ap, ◌∙◌, subst, arith, length-append}
+use Rattle.std.proofs.lemmas.Grind.{common_steps}
+use Rattle.std.proofs.lemmas.List.{append_assoc, drop_more, set-append_right}
 use Rattle.trace.specs.declared.act.Act.{Act}
 use Rattle.history.specs.declared.answer.Answer.{Answer as Told}
 use Rattle.history.specs.declared.refusal.Refusal.{Refusal}
-use Rattle.history.specs.Machine.{State, made, Call, Answer, answered, done, wrote, refused, answer, Steps}
+use Rattle.history.specs.Machine.{State, made, Call, Answer, answer, Steps}
 use Rattle.history.specs.Runs.{Turn}
-use Rattle.history.specs.Acting.{call_of, calls_of, told_of, Takes}
+use Rattle.history.specs.Acting.{call_of, calls_of, Takes}
 use Rattle.history.proofs.Acting.{Going, going_turn}
-use Rattle.hub.specs.InMemory.{plenty, zeros, start}
+use Rattle.hub.specs.InMemory.{plenty}
 use Rattle.entry.specs.declared.request.Request.{Request}
 use Rattle.entry.specs.declared.request.Reply.{Reply}
 use Rattle.entry.specs.Requests.{act_of, known}
 use Rattle.entry.specs.Playing.{reply, reply_of, replies_of, Plays, PlaysAll}
 use Rattle.entry.proofs.Requests.{blank, known_more}
-
--- the reply to what is told is that to the answer
-reply_told : (a : Answer) → reply_of (told_of a) ≡ reply a
-reply_told (answered n) = refl
-reply_told done = refl
-reply_told (wrote js) = refl
-reply_told (refused r) = refl
 
 length_replies : (us : List Turn) → length (replies_of us) ≡ length us
 length_replies [] = refl
@@ -42,11 +35,10 @@ pub record Replying (s : State) (all : List Call) (lent : List Reply) (h : State
 put_next : (front lent : List Reply) (i : ℕ) (r : Reply) → length front ≡ i → i < length lent
     → set (front ++ drop i lent) i r ≡ (front ++ r ∷ []) ++ drop (i + 1) lent
 put_next front lent i r e h =
-    let at_front : i - i ≡ 0 = omega arith in
-    set-append_right front (drop i lent) i i r e (omega arith)
-    ∙ ap (λ (k : ℕ). front ++ set (drop i lent) k r) at_front
-    ∙ ap (λ (z : List Reply). front ++ set z 0 r) (drop_more lent i r h)
-    ∙ sym (append_assoc front (r ∷ []) (drop (i + 1) lent))
+    let here = set-append_right front (drop i lent) i i r e (omega arith) in
+    let more = drop_more lent i r h in
+    let all = append_assoc front (r ∷ []) (drop (i + 1) lent) in
+    grind arith
 
 module _ {s h : State} {all : List Call} {lent replies : List Reply} {i : ℕ} where
   replying_turn : (c : Call) (rest : List Call) (a : Answer) (r : Reply) (t : State) → i < length lent → t.room ≡ plenty → Steps h c a t → r ≡ reply a
@@ -56,16 +48,10 @@ module _ {s h : State} {all : List Call} {lent replies : List Reply} {i : ℕ} w
       let u : Turn = record { call = c; answer = answer h c } in
       let said : r ≡ reply (answer h c) = is ∙ ap reply q.answers in
       let counted : length (replies_of made) ≡ i = length_replies made ∙ so_far.count in
-      record {
-        made = made ++ u ∷ [];
-        going = going_turn c rest a t e q so_far.going;
-        count = length-append made (u ∷ []) ∙ ap (λ (n : ℕ). n + 1) so_far.count;
-        told =
-            ap (λ (z : List Reply). set z i r) so_far.told
-            ∙ put_next (replies_of made) lent i r counted l
-            ∙ ap (λ (z : Reply). (replies_of made ++ z ∷ []) ++ drop (i + 1) lent) said
-            ∙ ap (λ (z : List Reply). z ++ drop (i + 1) lent) (sym (replies_more made u));
-      }
+      let more = replies_more made u in
+      let next = put_next (replies_of made) lent i r counted l in
+      let going = going_turn c rest a t e q so_far.going in
+      record { made = made ++ u ∷ []; going = going; count = grind (arith, length-append); told = grind arith }
 
 -- the same at the i-th request
 abbrev pub ReplyingOn : State → List Request → List Reply → State → ℕ → List Reply → Type 0
@@ -77,21 +63,15 @@ module _ (s : State) (qs : List Request) (lent : List Reply) (h : State) (i : �
       → ReplyingOn s qs lent h i replies → ReplyingOn s qs lent t (i + 1) (set replies i r)
   replying_more a places left told r t l m e n room q is so_far =
       replying_turn (call_of 32 a) (calls_of 32 (known (drop (i + 1) qs))) q.answer r t (omega arith) room
-      (subst (λ (k : ℕ). Steps h (call_of k a) q.answer t) n q.steps) (is ∙ ap reply_of q.told ∙ reply_told q.answer)
+      (subst (λ (k : ℕ). Steps h (call_of k a) q.answer t) n q.steps) (is ∙ ap reply_of q.told)
       (subst (λ (z : List Act). Replying s (calls_of 32 (known qs)) lent h i (calls_of 32 z) replies) (known_more qs i a l e) so_far)
 
 -- the requests that have a place are the front of the list
 pub asked_front : (qs : List Request) (places n : ℕ) → n ≡ min (length qs) places → take n qs ≡ take places qs
-asked_front qs places n e =
-    elim (cases_lt (length qs) places) [
-      | inl h ↦ take_all n qs (omega arith) ∙ sym (take_all places qs (omega arith))
-      | inr h ↦ let same : n ≡ places = omega arith in ap (λ (k : ℕ). take k qs) same
-    ]
+asked_front qs places n e = grind (arith, common_steps)
 
 -- the requests made on a hub that was just made
 pub plays_all : (s t : State) (first : ℕ) (opening : List ℕ) (asked requests : List Request) (before after : List Reply) (count : ℕ)
     → s ≡ made 32 first opening plenty → opening ≡ replicate 64 0 → asked ≡ take (length before) requests
     → Plays s asked before count t after → PlaysAll first requests before count after
-plays_all s t first opening asked requests before after count e o a p =
-    let begun : s ≡ start first zeros = e ∙ ap (λ (z : List ℕ). made 32 first z plenty) o in
-    (t, subst (λ (z : List Request). Plays (start first zeros) z before count t after) a (subst (λ (z : State). Plays z asked before count t after) begun p))
+plays_all s t first opening asked requests before after count e o a p = (t, grind arith)

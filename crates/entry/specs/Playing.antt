@@ -5,9 +5,9 @@ use Rattle.history.specs.declared.refusal.Refusal.TheVariants.{TableFull, Number
 use Rattle.history.specs.Refusals.{refusal_number}
 use Rattle.history.specs.declared.answer.Answer.{Answer as Told}
 use Rattle.history.specs.declared.answer.Answer.TheVariants.{Number, Done, Count}
-use Rattle.history.specs.Machine.{State, Answer, answered, done, wrote, refused}
+use Rattle.history.specs.Machine.{State, Answer}
 use Rattle.history.specs.Runs.{Turn, Runs}
-use Rattle.history.specs.Acting.{calls_of, run_from}
+use Rattle.history.specs.Acting.{calls_of, told_of, run_from}
 use Rattle.hub.specs.InMemory.{plenty, zeros, start}
 use Rattle.entry.specs.declared.request.Request.{Request}
 use Rattle.entry.specs.declared.request.Reply.{Reply}
@@ -25,18 +25,15 @@ holder ClosesCycle = 0
 holder NoRoom = 0
 
 -- what is replied: 0 or the number of the refusal, and the number given or read, how many retired, or the holder
-abbrev pub reply : Answer → Reply
-reply (answered n) = record { code = 0; number = n }
-reply done = record { code = 0; number = 0 }
-reply (wrote js) = record { code = 0; number = length js }
-reply (refused r) = record { code = refusal_number r; number = holder r }
-
--- the same of what the hub's code tells
 abbrev pub reply_of : Result Told Refusal → Reply
 reply_of (Ok (Number n)) = record { code = 0; number = n }
 reply_of (Ok Done) = record { code = 0; number = 0 }
 reply_of (Ok (Count n)) = record { code = 0; number = n }
 reply_of (Err r) = record { code = refusal_number r; number = holder r }
+
+-- the same of the machine's answer
+abbrev pub reply : Answer → Reply
+reply a = reply_of (told_of a)
 
 -- the run that the requests make from the state s on: a retire is lent 32 places
 abbrev pub run_of : State → List Request → List Turn
@@ -54,7 +51,8 @@ pub record Plays (s : State) (requests : List Request) (before : List Reply) (co
   pub count_is : count ≡ length (run_of s requests)
   pub replies : after ≡ replies_of (run_of s requests) ++ drop count before
 
--- the same of a hub over 64 items that hold 0, with no jobs, whose first one gets this number; only as many requests count as there are places for replies
+-- the same of a hub over 64 items that hold 0, with no jobs, whose first one gets this number; only as many
+-- requests count as there are places for replies
 abbrev pub PlaysAll : ℕ → List Request → List Reply → ℕ → List Reply → Type 0
 PlaysAll first requests before count after =
     (ending : State) × Plays (start first zeros) (take (length before) requests) before count ending after

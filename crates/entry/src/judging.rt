@@ -32,13 +32,12 @@ impl From<Result<Verdict, JudgeRefusal>> for Reply {
         match answer {
             Ok(Verdict::Yes(number)) => Reply { code: 0, number },
             Ok(Verdict::No(number)) => Reply { code: 1, number },
-            Err(JudgeRefusal::OutOfTurn { index }) => Reply {
-                code: JudgeRefusal::OutOfTurn { index }.number(),
-                number: index,
-            },
             Err(refusal) => Reply {
                 code: refusal.number(),
-                number: 0,
+                number: match refusal {
+                    JudgeRefusal::OutOfTurn { index } => index,
+                    _ => 0,
+                },
             },
         }
     }

@@ -21,13 +21,12 @@ impl From<Result<Answer, Refusal>> for Reply {
             },
             Ok(Answer::Done) => Reply { code: 0, number: 0 },
             Ok(Answer::Count(number)) => Reply { code: 0, number },
-            Err(Refusal::ItemHeld { holder }) => Reply {
-                code: Refusal::ItemHeld { holder }.number(),
-                number: holder as usize,
-            },
             Err(refusal) => Reply {
                 code: refusal.number(),
-                number: 0,
+                number: match refusal {
+                    Refusal::ItemHeld { holder } => holder as usize,
+                    _ => 0,
+                },
             },
         }
     }

@@ -1,12 +1,9 @@
 -- What a job holds, put into a store item by item. Assumes nothing.
-use Rattle.std.proofs.Common.{◌≡◌, ℕ, zero, suc, ◌+◌, ◌-◌, ◌<◌, ◌≤◌, min, true, false, cond, eqb, List, [], ◌∷◌, ◌++◌, map, length, set, Some, None, Ok, Err, Option, Result, sym, refl, ap, ◌∙◌, subst, inl, inr, arith}
-use Rattle.std.proofs.lemmas.Bool.{cases_Bool}
-use Rattle.std.proofs.lemmas.List.{length-set, length-append, map-append}
+use Rattle.std.proofs.Common.{◌≡◌, ℕ, zero, suc, ◌+◌, ◌-◌, ◌<◌, ◌≤◌, min, Bool, true, false, List, [], ◌∷◌, ◌++◌, map, length, set, Some, None, Option, Result, sym, refl, ap, ◌∙◌, subst, arith}
+use Rattle.std.proofs.lemmas.List.{length-set, length-append, append-nil, map-append}
 use Rattle.history.specs.declared.holding.Holding.{Holding}
 use Rattle.history.specs.Machine.{State, those, rising, holds, held_value, holdings, put_all}
 use Rattle.scheduler.specs.Cores.{value_of}
-use Rattle.scheduler.proofs.Commits.{those_next_in, those_next_out}
-use Rattle.store.proofs.Puts.{put_granted}
 use Rattle.store.specs.Stores.{Puts, Turns}
 use Rattle.store.specs.declared.store.PutRefused.{PutRefused}
 use Rattle.hub.specs.Putting.{PutAll, PutInTurn, held_pairs, with_values}
@@ -25,24 +22,13 @@ pub record OnTheWay {S : Type 0} (values : S → List ℕ) (room : S → ℕ) (b
   pub keeps : length (held_below held j n) ≡ 0 → room after ≡ room before
   pub turns : PutInTurn becomes before (with_values held (held_below held j n)) after
 
-no_value : {X : Type 0} (v : ℕ) → ◌≡◌ {A = Option ℕ} None (Some v) → X
-no_value v e = let z : ◌≡◌ {A = ℕ} 0 1 = cc in absurd (omega arith)
-
 -- what the value that a job holds says of the holding
 
 value_held : (j : ℕ) (h : Option Holding) (v : ℕ) → value_of j h ≡ Some v → (holds j h ≡ true) × (held_value h 0 ≡ v)
-value_held j None v e = no_value v e
-value_held j (Some h) v e = elim (cases_Bool (eqb h.job j)) [
-  | inl mine ↦ (mine, (let f : Some h.value ≡ Some v = sym (ap (λ b. cond b (Some h.value) None) mine) ∙ e in cc))
-  | inr other ↦ no_value v (sym (ap (λ b. cond b (Some h.value) None) other) ∙ e)
-]
+value_held j h v e = grind arith
 
 value_none : (j : ℕ) (h : Option Holding) → value_of j h ≡ None → holds j h ≡ false
-value_none j None e = refl
-value_none j (Some h) e = elim (cases_Bool (eqb h.job j)) [
-  | inl mine ↦ no_value h.value (sym e ∙ ap (λ b. cond b (Some h.value) None) mine)
-  | inr other ↦ other
-]
+value_none j h e = grind arith
 
 put_all_more : (held : ℕ → Option Holding) (xs : List ℕ) (x : ℕ) (values : List ℕ) → put_all held (xs ++ x ∷ []) values ≡ set (put_all held xs values) x (held_value (held x) 0)
 unfolding put_all
@@ -54,29 +40,26 @@ unfolding put_all
 put_all_long held [] values = refl
 put_all_long held (y ∷ xs) values = put_all_long held xs (set values y (held_value (held y) 0)) ∙ length-set values y (held_value (held y) 0)
 
+those_more : (p : ℕ → Bool) (a n : ℕ) → those p (rising a (suc n)) ≡ those p (rising a n) ++ those p ((a + n) ∷ [])
+unfolding those rising
+those_more p a zero = grind arith
+those_more p a (suc n) = let more = those_more p (suc a) n in grind arith
+
 module _ (held : ℕ → Option Holding) (j : ℕ) where
   below_in : (n : ℕ) → holds j (held n) ≡ true → held_below held j (n + 1) ≡ held_below held j n ++ n ∷ []
-  unfolding held_below
-  below_in n e = those_next_in (λ x. holds j (held x)) n e
+  unfolding held_below those
+  below_in n e = let more = those_more (λ x. holds j (held x)) 0 n in grind arith
 
   below_out : (n : ℕ) → holds j (held n) ≡ false → held_below held j (n + 1) ≡ held_below held j n
-  unfolding held_below
-  below_out n e = those_next_out (λ x. holds j (held x)) n e
+  unfolding held_below those
+  below_out n e = let more = those_more (λ x. holds j (held x)) 0 n in grind (arith, append-nil)
 
   below_rises : (n : ℕ) → length (held_below held j n) ≤ length (held_below held j (n + 1))
-  below_rises n = elim (cases_Bool (holds j (held n))) [
-    | inl e ↦ (let f = ap length (below_in n e) ∙ length-append (held_below held j n) (n ∷ []) in omega arith)
-    | inr e ↦ (let f = ap length (below_out n e) in omega arith)
-  ]
+  below_rises n = let inside = below_in n in let out = below_out n in grind (arith, length-append)
 
   below_more : (n m : ℕ) → length (held_below held j n) ≤ length (held_below held j (n + m))
-  below_more n zero = let e : n ≡ n + 0 = omega arith in let f = ap (λ k. length (held_below held j k)) e in omega arith
-  below_more n (suc m) =
-      let a = below_more n m in
-      let b = below_rises (n + m) in
-      let e : n + m + 1 ≡ n + suc m = omega arith in
-      let f = ap (λ k. length (held_below held j k)) e in
-      omega arith
+  below_more n zero = grind arith
+  below_more n (suc m) = let a = below_more n m in let b = below_rises (n + m) in grind arith
 
 -- one put more at the end of those in turn
 put_in_turn_more : {S : Type 0} (becomes : S → ℕ → ℕ → S → Type 0) (before : S) (puts : List (ℕ × ℕ)) (store after : S) (x v : ℕ) → PutInTurn becomes before puts store → becomes store x v after → PutInTurn becomes before (puts ++ (x, v) ∷ []) after
@@ -90,16 +73,7 @@ module _ {S : Type 0} (values : S → List ℕ) (room : S → ℕ) (becomes : S 
 
   module _ (n : ℕ) (store : S) (so_far : OnTheWay values room becomes held j served n before store) where
     pub put_past : None ≡ value_of j (held n) → OnTheWay values room becomes held j served (n + 1) before store
-    put_past e =
-        let f = below_out held j n (value_none j (held n) (sym e)) in
-        record {
-          inside = so_far.inside;
-          enough = so_far.enough;
-          put = so_far.put ∙ ap (λ l. put_all held l (values before)) (sym f);
-          takes = (let g = ap length f in omega (arith, so_far.takes));
-          keeps = λ z. so_far.keeps (sym (ap length f) ∙ z);
-          turns = subst (λ l. PutInTurn becomes before (with_values held l) store) (sym f) so_far.turns;
-        }
+    put_past e = let out = below_out held j n (value_none j (held n) (sym e)) in grind arith
 
     module _ (v : ℕ) (told : Some v ≡ value_of j (held n)) (below : n < served) where
       e : value_of j (held n) ≡ Some v
@@ -112,12 +86,7 @@ module _ {S : Type 0} (values : S → List ℕ) (room : S → ℕ) (becomes : S 
       put_inside = let f = ap length so_far.put ∙ put_all_long held (held_below held j n) (values before) in omega (arith, so_far.inside)
 
       put_has_room : 0 < room store
-      put_has_room =
-          let f = below_more held j (n + 1) (served - (n + 1)) in
-          let g : n + 1 + (served - (n + 1)) ≡ served = omega arith in
-          let h = ap (λ k. length (held_below held j k)) g in
-          let i = grows in
-          omega (arith, so_far.takes, so_far.enough)
+      put_has_room = let more = below_more held j (n + 1) (served - (n + 1)) in let next = grows in grind arith
 
       -- with the value of item n at the end
       one_more : with_values held (held_below held j (n + 1)) ≡ with_values held (held_below held j n) ++ (n, v) ∷ []
@@ -128,23 +97,17 @@ module _ {S : Type 0} (values : S → List ℕ) (room : S → ℕ) (becomes : S 
           ∙ ap (λ u. with_values held (held_below held j n) ++ (n, u) ∷ []) is.1
 
       put_granted_here : (after : S) (r : Result (Unit {0}) PutRefused) → Puts (values store) (room store) n v r (values after) (room after) → Turns becomes store n v r after → (values after ≡ set (values store) n v) × (room store ≤ room after + 1) × becomes store n v after
-      put_granted_here after (Ok _) p t = (p.2, p.3, t)
-      put_granted_here after (Err e) p t = let no = (put_granted (values store) (values after) (room store) (room after) n v (Err e) p put_inside put_has_room).0 in let z : ◌≡◌ {A = ℕ} 0 1 = cc in absurd (omega arith)
+      put_granted_here after r p t = let inside = put_inside in let enough = put_has_room in grind arith
 
       pub put_one : (after : S) (r : Result (Unit {0}) PutRefused) → Puts (values store) (room store) n v r (values after) (room after) → Turns becomes store n v r after → OnTheWay values room becomes held j served (n + 1) before after
       put_one after r p t =
           let is = value_held j (held n) v e in
           let got = put_granted_here after r p t in
-          record {
-            inside = so_far.inside;
-            enough = so_far.enough;
-            put =
-                got.0 ∙ ap (λ l. set l n v) so_far.put ∙ ap (set (put_all held (held_below held j n) (values before)) n) (sym is.1)
-                ∙ sym (put_all_more held (held_below held j n) n (values before)) ∙ ap (λ l. put_all held l (values before)) (sym (below_in held j n is.0));
-            takes = (let h = grows in omega (arith, so_far.takes, got.1));
-            keeps = λ z. (let h = grows in absurd (omega arith));
-            turns = subst (λ l. PutInTurn becomes before l after) (sym one_more) (put_in_turn_more becomes before _ store after n v so_far.turns got.2);
-          }
+          let more = below_in held j n is.0 in
+          let all = put_all_more held (held_below held j n) n (values before) in
+          let last = one_more in
+          let turns = put_in_turn_more becomes before _ store after n v so_far.turns got.2 in
+          grind (arith, length-append)
 
 -- all that the job holds, of the items that are served
 pub holdings_below : (s : State) (j n : ℕ) → n ≡ min 64 (length s.values) → length (held_below s.held j n) ≡ length (holdings s j)
@@ -157,12 +120,7 @@ module _ {S : Type 0} (values : S → List ℕ) (room : S → ℕ) (becomes : S 
   same_items = ap (λ k. those (λ x. holds j (s.held x)) (rising 0 k)) e
 
   pub put_below_all : PutAll s j (values after) (room after)
-  put_below_all =
-      let f = same_items in (
-        p.put ∙ ap (λ l. put_all s.held l (values before)) f ∙ ap (put_all s.held (holdings s j)) (sym vs),
-        (let g = ap length f in omega (arith, p.takes)),
-        λ z. p.keeps (ap length f ∙ z) ∙ sym r,
-      )
+  put_below_all = let same = same_items in grind arith
 
   pub put_below_turns : PutInTurn becomes before (held_pairs s j) after
   put_below_turns = subst (λ l. PutInTurn becomes before (with_values s.held l) after) same_items p.turns

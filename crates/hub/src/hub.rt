@@ -8,7 +8,6 @@ ghost use Rattle.hub.specs.Asking.{MayCommit, Committed};
 ghost use Rattle.hub.specs.Standing.{machine_of};
 ghost use Rattle.hub.specs.Putting.{LeavesIfRefused, PutsIfGranted, PutsFor, PutInTurn, held_pairs};
 
-use super::putting::put_held;
 use history::answer::Answer;
 use history::refusal::Refusal;
 use scheduler::hub_core::Core;
@@ -105,14 +104,19 @@ impl<S: Store> Hub<S> {
         }
     }
 
-    // Puts what the job holds into the store and ends the job, whose commit is not refused.
+    // Puts what the job holds into the store, smaller items first, and ends the job, whose commit is not
+    // refused.
     fn finish(&mut self, job: u32)
         requires { MayCommit (machine_of S.Store self.old) job (Ok tt) }
         ensures commits { Committed (machine_of S.Store self.old) job (machine_of S.Store self.new) }
         ensures puts { PutInTurn S.Store.becomes self.old.store (held_pairs (machine_of S.Store self.old) job) self.new.store }
     {
         let served = self.store.items().min(64);
-        put_held(&mut self.store, &self.core, job, served);
+        for item in 0..served {
+            if let Some(value) = self.core.held_by(job, item) {
+                let _ = self.store.put(item as u32, value);
+            }
+        }
         let _ = self.core.end(job);
     }
 

@@ -1,10 +1,8 @@
 // The hub: many jobs at once over the items of a store.
 //
-// hub      the hub and its calls
-// putting  putting what a job holds into the store
+// hub  the hub and its calls
 #![tactic(auto)]
 
 pub mod hub;
-mod putting;
 
 pub use hub::Hub;

@@ -1,6 +1,7 @@
 // A hub over lent memory and one over lent bytes, side by side.
 ghost use Rattle.std.specs.Prelude.{◌-◌};
 ghost use Rattle.history.specs.Machine.{made, Peeks};
+ghost use Rattle.hub.specs.InMemory.{start};
 ghost use Rattle.store.specs.Records.{contents, used_in, whole};
 
 use history::refusal::Refusal;
@@ -15,7 +16,7 @@ pub fn peek_both(
     items: u8,
     item: u32,
 ) -> (Result<u32, Refusal>, Result<u32, Refusal>)
-    ensures memory { Peeks (made 32 0 values.old 4294967295) item result.0 (made 32 0 values.old 4294967295) }
+    ensures memory { Peeks (start 0 values.old) item result.0 (start 0 values.old) }
     ensures log { Peeks (made 32 0 (contents bytes.old items (used_in bytes.old)) (whole bytes.old - used_in bytes.old)) item result.1 (made 32 0 (contents bytes.old items (used_in bytes.old)) (whole bytes.old - used_in bytes.old)) }
 {
     let over_memory = Hub::new(MemoryStore::new(values), 0);

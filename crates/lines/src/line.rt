@@ -1,7 +1,7 @@
 // The lines of a rehearsal: what is told of each answer.
 ghost use Rattle.std.specs.Prelude.{◌≡◌, Some, None};
 ghost use Rattle.lines.specs.Outcomes.{outcome_of};
-ghost use Rattle.lines.specs.Texts.{answer_column, detail_column, answer_text, detail_text, columns_text, line_text, refusal_line};
+ghost use Rattle.lines.specs.Texts.{answer_column, detail_column, answer_text, detail_text, line_text, refusal_line};
 
 use history::answer::Answer;
 use history::refusal::Refusal;
@@ -127,36 +127,13 @@ impl fmt::Display for DetailColumn {
     }
 }
 
-// The three columns of a line.
-#[derive(Clone, Copy)]
-struct Columns {
-    number: usize,
-    answer: AnswerColumn,
-    detail: DetailColumn,
-}
-
-impl fmt::Display for Columns {
-    ghost output = { λ c. Some (columns_text c.number c.answer c.detail) };
-
-    fn fmt<W: fmt::Write>(&self, f: &mut fmt::Formatter<W>) -> fmt::Result {
-        let Columns {
-            number,
-            answer,
-            detail,
-        } = *self;
-        write!(f, "{number},{answer},{detail}")
-    }
-}
-
 impl fmt::Display for Line {
     ghost output = { λ l. Some (line_text l) };
 
     fn fmt<W: fmt::Write>(&self, f: &mut fmt::Formatter<W>) -> fmt::Result {
-        let columns = Columns {
-            number: self.number,
-            answer: self.outcome.answer_column(),
-            detail: self.outcome.detail_column(),
-        };
-        write!(f, "{columns}")
+        let number = self.number;
+        let answer = self.outcome.answer_column();
+        let detail = self.outcome.detail_column();
+        write!(f, "{number},{answer},{detail}")
     }
 }

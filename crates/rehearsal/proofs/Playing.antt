@@ -1,5 +1,5 @@
 -- Steps played one after another.
-use Rattle.std.proofs.Common.{◌≡◌, ℕ, ◌+◌, ◌<◌, List, [], ◌∷◌, ◌++◌, length, get_or, drop, refl, ap, ◌∙◌, subst}
+use Rattle.std.proofs.Common.{◌≡◌, ℕ, ◌+◌, ◌<◌, List, [], ◌∷◌, ◌++◌, length, get_or, drop, refl, ap, ◌∙◌, subst, arith}
 use Rattle.std.proofs.lemmas.List.{append_assoc, drop_more}
 use Rattle.trace.specs.declared.act.Act.TheVariants.{Open}
 use Rattle.trace.specs.declared.act.Step.{Step}
@@ -31,15 +31,8 @@ module _ (s : State) (steps : List Step) (before : List Line) (h : State) where
       let next : t ≡ after_call h c plenty = q.steps.becomes ∙ ap (after_call h c) e in
       let said : lines' ≡ lines ++ answer_lines step.line (answer h c) =
       q.lines ∙ ap (λ (a : Answer). lines ++ answer_lines step.line a) q.steps.answers in
-      record {
-        made = so_far.made ++ record { call = c; answer = answer h c } ∷ [];
-        going = going_turn c (calls_of rest) q.told t e q.steps so_far.going;
-        told =
-            ap (λ (z : List Line). z ++ lines_of rest (run_from plenty t (calls_of rest))) said
-            ∙ append_assoc lines (answer_lines step.line (answer h c)) (lines_of rest (run_from plenty t (calls_of rest)))
-            ∙ ap (λ (z : State). lines ++ (answer_lines step.line (answer h c) ++ lines_of rest (run_from plenty z (calls_of rest)))) next
-            ∙ so_far.told;
-      }
+      let going = going_turn c (calls_of rest) q.told t e q.steps so_far.going in
+      record { made = so_far.made ++ record { call = c; answer = answer h c } ∷ []; going = going; told = grind (arith, append_assoc) }
 
   -- the same at the i-th step of the list
   pub telling_more : (t : State) (i : ℕ) (lines lines' : List Line) → i < length steps → t.room ≡ plenty
@@ -56,8 +49,8 @@ pub rehearsed : (s t : State) (first room : ℕ) (values opening : List ℕ) (st
     → Played s steps before t lines → RehearsedOn first opening steps lines
 rehearsed s t first room values opening steps before lines e o r every b p =
     let begun : s ≡ start first opening = e ∙ ap (λ (z : List ℕ). made 32 first z room) o ∙ ap (made 32 first opening) r in
-    let q : Played (start first opening) steps [] t lines = subst (λ (z : State). Played z steps [] t lines) begun (subst (λ (z : List Line). Played s steps z t lines) b p) in
     let all : EveryRunFrom (start first opening) opening = subst (λ (z : State). EveryRunFrom z opening) begun (subst (λ (z : List ℕ). EveryRunFrom s z) o every) in
+    let q : Played (start first opening) steps [] t lines = grind arith in
     record {
       ending = t;
       calls = called_run (start first opening) (calls_of steps);

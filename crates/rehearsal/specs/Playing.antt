@@ -1,17 +1,18 @@
 -- A trace played on a hub: the calls of its steps, the run that they make, and the lines that tell it.
 -- Rests on the machine, and on the promises of every run.
-use Rattle.std.specs.Prelude.{◌≡◌, ℕ, List, [], ◌∷◌, ◌++◌, length, map, Some, None, Option}
+use Rattle.std.specs.Prelude.{◌≡◌, ℕ, List, [], ◌∷◌, ◌++◌, map, Some, None, Option}
 use Rattle.trace.specs.declared.act.Step.{Step}
 use Rattle.trace.specs.declared.fault.ReadRefusal.{ReadRefusal}
 use Rattle.console.specs.Inputs.{read as read_input, steps_of}
-use Rattle.history.specs.Machine.{State, Call, Answer, answered, done, wrote, refused, Steps}
-use Rattle.history.specs.Acting.{call_of, run_from}
+use Rattle.history.specs.Machine.{State, Call, Answer, Steps}
+use Rattle.history.specs.Acting.{call_of, told_of, run_from}
 use Rattle.history.specs.Runs.{Turn, Runs, acts_of, retired_by, retired_of}
 use Rattle.history.specs.Promises.{Serializable}
 use Rattle.hub.specs.InMemory.{plenty, zeros, start}
 use Rattle.lines.specs.declared.line.Outcome.{Outcome}
-use Rattle.lines.specs.declared.line.Outcome.TheVariants.{Number, Done, Count, Retired, Refused}
+use Rattle.lines.specs.declared.line.Outcome.TheVariants.{Retired}
 use Rattle.lines.specs.declared.line.Line.{Line}
+use Rattle.lines.specs.Outcomes.{outcome_of}
 use Rattle.lines.specs.Texts.{refusal_line}
 
 -- the calls of the steps, in their order: a retire is lent 32 places
@@ -20,10 +21,7 @@ calls_of steps = map (λ step. call_of 32 step.act) steps
 
 -- what a line tells of an answer
 abbrev pub outcome : Answer → Outcome
-outcome (answered n) = Number n
-outcome done = Done
-outcome (wrote js) = Count (length js)
-outcome (refused r) = Refused r
+outcome a = outcome_of (told_of a)
 
 -- a line for each retired number
 abbrev pub retired_lines : ℕ → List ℕ → List Line

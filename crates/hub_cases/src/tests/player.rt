@@ -26,20 +26,6 @@ pub(crate) enum Answer {
     No(Refusal),
 }
 
-fn number(r: Result<u32, Refusal>) -> Answer {
-    match r {
-        Ok(n) => Answer::Is(n),
-        Err(why) => Answer::No(why),
-    }
-}
-
-fn done(r: Result<(), Refusal>) -> Answer {
-    match r {
-        Ok(()) => Answer::Done,
-        Err(why) => Answer::No(why),
-    }
-}
-
 fn retire<S: Store>(hub: &mut Hub<S>, places: usize) -> Answer {
     let mut list = [9; 100];
     let count = hub.retire(&mut list[..places.min(100)]);
@@ -47,22 +33,22 @@ fn retire<S: Store>(hub: &mut Hub<S>, places: usize) -> Answer {
 }
 
 fn make<S: Store>(hub: &mut Hub<S>, call: Call) -> Answer {
-    match call {
-        Call::Open => number(hub.open()),
-        Call::Read(job, item) => number(hub.read(job, item)),
-        Call::Write(job, item, value) => done(hub.write(job, item, value)),
-        Call::Commit(job) => done(hub.commit(job)),
-        Call::Abort(job) => done(hub.abort(job)),
-        Call::Retire(places) => retire(hub, places),
-        Call::Peek(item) => number(hub.peek(item)),
-    }
+    let answer = match call {
+        Call::Open => hub.open().map(Answer::Is),
+        Call::Read(job, item) => hub.read(job, item).map(Answer::Is),
+        Call::Write(job, item, value) => hub.write(job, item, value).map(|_| Answer::Done),
+        Call::Commit(job) => hub.commit(job).map(|_| Answer::Done),
+        Call::Abort(job) => hub.abort(job).map(|_| Answer::Done),
+        Call::Retire(places) => Ok(retire(hub, places)),
+        Call::Peek(item) => hub.peek(item).map(Answer::Is),
+    };
+    answer.unwrap_or_else(Answer::No)
 }
 
 // Makes the calls, one after another; each must be answered so.
 pub(crate) fn play<S: Store>(rt: &impl Abort, hub: &mut Hub<S>, turns: &[(Call, Answer)]) {
-    for k in 0..turns.len() {
-        let (call, answer) = turns[k];
-        assert_eq!(rt; make(hub, call), answer);
+    for (call, answer) in turns {
+        assert_eq!(rt; make(hub, *call), *answer);
     }
 }
 

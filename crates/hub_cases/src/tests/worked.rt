@@ -2,9 +2,13 @@
 use super::player::Answer::{Done, Is, No, Wrote};
 use super::player::Call::{Abort, Commit, Open, Peek, Read, Retire, Write};
 use super::player::{play, play_on_both};
-use history::refusal::Refusal::{ClosesCycle, ItemHeld, ItemNotServed, NoRoom, NotPresent};
+use history::answer::Answer;
+use history::refusal::Refusal::{
+    AlreadyCommitted, ClosesCycle, ItemHeld, ItemNotServed, NoRoom, NotPresent,
+};
 use hub::Hub;
 use store::{LogStore, MemoryStore, Store};
+use trace::act::Act;
 
 #[test]
 fn jobs_retire_by_the_edge_and_not_by_their_commits(rt: HostRuntime) {
@@ -188,4 +192,39 @@ fn none_retires_into_no_places(rt: HostRuntime) {
             (Retire(32), Wrote(1, [1, 9, 9])),
         ],
     );
+}
+
+// What an act says of a job's number or of a value read is not asked.
+#[test]
+fn every_act_is_taken_as_its_call(rt: HostRuntime) {
+    let mut words = [0; 2];
+    let mut hub = Hub::new(MemoryStore::new(&mut words), 1);
+    let mut list = [9; 3];
+    let turns = [
+        (Act::Open { job: 7 }, Ok(Answer::Number(1))),
+        (
+            Act::Write {
+                job: 1,
+                item: 0,
+                value: 5,
+            },
+            Ok(Answer::Done),
+        ),
+        (
+            Act::Read {
+                job: 1,
+                item: 0,
+                value: 0,
+            },
+            Ok(Answer::Number(5)),
+        ),
+        (Act::Commit { job: 1 }, Ok(Answer::Done)),
+        (Act::Abort { job: 1 }, Err(AlreadyCommitted)),
+        (Act::Peek { item: 0, value: 0 }, Ok(Answer::Number(5))),
+        (Act::Retire, Ok(Answer::Count(1))),
+    ];
+    for (act, answer) in turns {
+        assert_eq!(rt; hub.take(act, &mut list), answer);
+    }
+    assert_eq!(rt; list, [1, 9, 9]);
 }
