@@ -42,6 +42,7 @@ pub fn next_free<G: Graph>(
 ) -> Option<usize>
     ensures { Picks (edges_of G.Graph graph.now) (G.Graph.size graph.now) keys.now (has left) (has eligible) result }
 {
+    // A loop: of a filter the proof learns what it passed over only where its test is a function of the node.
     let mut best = None;
     for node in 0..graph.size() {
         if contains(eligible, node) && is_free(graph, left, node) && goes_first(keys, node, best) {

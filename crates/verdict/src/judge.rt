@@ -44,6 +44,7 @@ fn has_all(list: &NodeList, set: NodeSet) -> bool
     ensures all { result ≡ true → (n : ℕ) → has set n ≡ true → n ∈ list.now.items }
     ensures some { result ≡ false → ((n : ℕ) → has set n ≡ true → n ∈ list.now.items) → ⊥ }
 {
+    // A loop: each node is taken out of the set, and what is left is asked once.
     let mut missing = set;
     for node in list.iter() {
         missing = without(missing, *node);

@@ -1,11 +1,8 @@
-use Rattle.std.proofs.Common.{◌<◌, ℕ, not, ◌&&◌, eqb, List, length, get_or, ap, ◌∙◌, subst, inl, arith}
+use Rattle.std.proofs.Common.{◌<◌, ℕ, not, ◌&&◌, eqb, List, length, get_or, ap, ◌∙◌, subst, arith}
 use Rattle.std.proofs.lemmas.List.{take_all}
 use Rattle.graph.specs.Nodes.{has}
 use Rattle.verdict.proofs.Missing.{Missing, missing_more, missing_none, all_there}
 use Rattle.verdict.proofs.judge.has_all.Goals as goal
-
-pub loop-node-init : goal.loop-node-init
-loop-node-init c = record { rest = λ n i. inl i; only = λ n i. (i, λ b. b) }
 
 pub loop-node-preserved : goal.loop-node-preserved
 loop-node-preserved c =
