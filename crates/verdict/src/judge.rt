@@ -40,6 +40,7 @@ fn put(ledger: &Ledger, chosen: &NodeList, numbers: &mut [u32])
 }
 
 // Whether every node of the set stands in the list.
+#[tactic(auto, using(crate::proofs::Missing::missing_more, crate::proofs::Missing::missing_none, crate::proofs::Missing::all_there))]
 fn has_all(list: &NodeList, set: NodeSet) -> bool
     ensures all { result ≡ true → (n : ℕ) → has set n ≡ true → n ∈ list.now.items }
     ensures some { result ≡ false → ((n : ℕ) → has set n ≡ true → n ∈ list.now.items) → ⊥ }
