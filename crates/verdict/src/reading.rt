@@ -85,6 +85,7 @@ fn access(
 }
 
 // Takes the opening of a job, at the index.
+#[tactic(auto, using(crate::proofs::Ledgers::found_before, crate::proofs::Ledgers::found_never, crate::proofs::Ledgers::counted))]
 fn open(ledger: &mut Ledger, index: usize, job: u32) -> Result<(), JudgeRefusal>
     ensures { (H : List Act) → Keeps H ledger.old → Takes H (Open job) index result ledger.new }
 {
@@ -138,6 +139,7 @@ fn follow(ledger: &mut Ledger, before: &[Step], act: &Act) -> Result<(), JudgeRe
 }
 
 // The ledger of all steps, or why they are not judged.
+#[tactic(auto, using(crate::proofs::Steps::read_refused, crate::proofs::Steps::read_all))]
 pub(crate) fn read_steps(steps: &[Step]) -> Result<Ledger, JudgeRefusal>
     ensures { ReadsSteps (acts steps.now) result }
 {
