@@ -1,6 +1,6 @@
-use Rattle.std.proofs.Common.{◌≡◌, ◌<◌, refl, sym, ◌∙◌, arith}
+use Rattle.std.proofs.Common.{◌<◌, sym, ◌∙◌, arith}
 use Rattle.verdict.specs.Ledgers.{count}
-use Rattle.verdict.proofs.Ledgers.{found_before, found_never, counted, keeps_open}
+use Rattle.verdict.proofs.Ledgers.{found_never, counted, keeps_open}
 use Rattle.verdict.proofs.reading.open.Goals as goal
 
 pub returns : goal.returns

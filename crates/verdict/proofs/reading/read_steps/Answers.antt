@@ -1,9 +1,6 @@
-use Rattle.std.proofs.Common.{Err, sym, ap, ◌∙◌, subst, arith}
-use Rattle.std.proofs.lemmas.Result.{err_from_is_err_and}
+use Rattle.std.proofs.Common.{sym, subst}
 use Rattle.trace.specs.declared.act.Act.TheVariants.{Open}
-use Rattle.verdict.specs.Ledgers.{ReadsSteps}
-use Rattle.verdict.specs.Turns.{acts}
-use Rattle.verdict.proofs.Steps.{ReadUpto, read_none, read_more, read_refused, read_all}
+use Rattle.verdict.proofs.Steps.{ReadUpto, read_none, read_more}
 use Rattle.verdict.proofs.reading.read_steps.Goals as goal
 
 pub loop-index-init : goal.loop-index-init
