@@ -2,6 +2,7 @@
 ghost use Rattle.std.specs.Prelude.{◌≡◌, ℕ, ◌≤◌, true, false, not, ◌&&◌, ◌||◌, ◌==◌, nat_lt};
 ghost use Rattle.graph.specs.Nodes.{has, MemberOf};
 
+// A plain word: rows of such words are handed whole to the search.
 pub type NodeSet = u64;
 
 // The nodes of the first set that are not in the second.

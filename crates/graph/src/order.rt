@@ -34,6 +34,7 @@ fn goes_first(keys: &[u32], node: usize, best: Option<usize>) -> bool
 
 // The node with the smallest key, of equal ones the smallest, among the eligible nodes of the graph that no node left
 // has an edge into. None is answered where there is no such node. A node without a key counts as having key 0.
+#[tactic(auto, using(crate::proofs::Orders::picks_skip, crate::proofs::Orders::picks_keep, crate::proofs::Orders::picks_take))]
 pub fn next_free<G: Graph>(
     graph: &G,
     keys: &[u32],
@@ -42,6 +43,7 @@ pub fn next_free<G: Graph>(
 ) -> Option<usize>
     ensures { Picks (edges_of G.Graph graph.now) (G.Graph.size graph.now) keys.now (has left) (has eligible) result }
 {
+    // A loop: of a filter the proof learns what it passed over only where its test is a function of the node.
     let mut best = None;
     for node in 0..graph.size() {
         if contains(eligible, node) && is_free(graph, left, node) && goes_first(keys, node, best) {
@@ -54,6 +56,7 @@ pub fn next_free<G: Graph>(
 // The nodes of the set in order: each time the one with the smallest key, of equal ones the smallest, that no node
 // not yet placed has an edge into. It stops short where the nodes not placed have a cycle. A node without a key counts
 // as having key 0.
+#[tactic(auto, using(crate::proofs::Orders::placed_next, crate::proofs::Orders::placed_all, crate::proofs::Stuck::ordered_orders))]
 pub fn topological_order<G: Graph>(graph: &G, keys: &[u32], set: NodeSet) -> NodeList
     ensures { Orders (edges_of G.Graph graph.now) (G.Graph.size graph.now) keys.now set result.items }
 {

@@ -61,6 +61,7 @@ impl Found {
     }
 
     // The way on which the search came to the node, with the node at its end.
+    #[tactic(auto, using(crate::proofs::Search::way_push))]
     fn way_to(&self, node: usize) -> NodeList
         requires inside { node < 64 }
         requires near { depth_of self.now node < 64 }
@@ -79,6 +80,7 @@ impl Found {
 }
 
 // The search from a start that is a node of the graph. A node from which an edge leads to the goal ends it.
+#[tactic(auto, using(crate::proofs::Search::searching_none, crate::proofs::Search::searched_more))]
 fn search<G: Graph>(graph: &G, start: usize, goal: usize) -> Option<NodeList>
     requires { start < G.Graph.size graph.now }
     ensures { Finds (edges_of G.Graph graph.now) start goal result }
@@ -87,6 +89,7 @@ fn search<G: Graph>(graph: &G, start: usize, goal: usize) -> Option<NodeList>
     let mut found = Found::start(start);
     let mut head = 0;
     let mut last = None;
+    // Nested loops over the frontier and the nodes, left by a label from the inner one.
     'search: while head < found.order.len() {
         let at = found.order[head];
         for to in 0..size {
@@ -105,6 +108,7 @@ fn search<G: Graph>(graph: &G, start: usize, goal: usize) -> Option<NodeList>
 }
 
 // Whether a path of one edge or more leads from the start to the goal, which is a node of the graph.
+#[tactic(auto, using(crate::proofs::Reach::reaching_all))]
 fn reaches<G: Graph>(graph: &G, start: usize, goal: usize) -> bool
     requires { goal < G.Graph.size graph.now }
     ensures reached { result ≡ true → Path (edges_of G.Graph graph.now) start goal }
@@ -124,6 +128,7 @@ fn reaches<G: Graph>(graph: &G, start: usize, goal: usize) -> bool
 // A path of one edge or more from the start to the goal, found breadth first: its nodes from the start on, without
 // the goal at its end. Start and goal may be the same: the path is then a cycle. None is answered where there is no
 // such path.
+#[tactic(auto, using(crate::proofs::Reach::begins_inside, crate::proofs::Reach::ends_inside))]
 pub fn find_path<G: Graph>(graph: &G, start: usize, goal: usize) -> Option<NodeList>
     ensures { Finds (edges_of G.Graph graph.now) start goal result }
 {

@@ -1,5 +1,5 @@
 -- The ledger of one act more.
-use Rattle.std.proofs.Common.{◌≡◌, ℕ, ◌+◌, ◌<◌, Bool, true, false, cond, not, ◌&&◌, ◌||◌, T, eqb, ◌⊎◌, List, [], ◌∷◌, ◌++◌, length, get_or, set, Some, None, Option, is_some, Err, Result, sym, refl, ap, ◌∙◌, subst, inl, inr, ⊎_elim, arith}
+use Rattle.std.proofs.Common.{◌≡◌, ℕ, ◌+◌, ◌<◌, Bool, true, false, cond, not, ◌&&◌, ◌||◌, T, eqb, ◌⊎◌, List, [], ◌∷◌, ◌++◌, length, get_or, set, Some, None, Option, is_some, ok_or, Ok, Err, Result, sym, refl, ap, ◌∙◌, subst, inl, inr, ⊎_elim, arith}
 use Rattle.std.proofs.lemmas.Bool.{both_ways, cases_eq, eq-eqb, eqb-true, ne_eqb, or_left, or_right, or_cases}
 use Rattle.std.proofs.lemmas.List.{append-nil, length_push}
 use Rattle.std.proofs.Math.ListN.{get_or-append}
@@ -296,6 +296,16 @@ pub keeps_open : (H : List Act) (l m : Ledger) (j : ℕ) → Keeps H l → fate 
 keeps_open H l m j k new room d =
     subst (Keeps (H ++ Open j ∷ [])) (sym (d.rest ∙ λ i. record l { numbers = record { items = d.numbers i }; running = m.running; kept = m.kept }))
     (keeps_grown H l k j new room m.running m.kept d.running d.kept)
+
+-- the node of the job is told, where it is open, or that a step of it at the index is out of turn
+abbrev pub TellsOpen : Ledger → ℕ → ℕ → Result ℕ JudgeRefusal → Type 0
+TellsOpen l j index (Ok p) = FindsOpen l j (Some p)
+TellsOpen l j index (Err r) = (r ≡ OutOfTurn index) × FindsOpen l j None
+
+pub tells : (l : Ledger) (j index : ℕ) (found : Option ℕ) (r : Result ℕ JudgeRefusal) → FindsOpen l j found → r ≡ ok_or found (OutOfTurn index)
+    → TellsOpen l j index r
+tells l j index None r f e = subst (TellsOpen l j index) (sym e) (refl, f)
+tells l j index (Some p) r f e = subst (TellsOpen l j index) (sym e) f
 
 -- what a look into the ledger tells of a job
 module _ (H : List Act) (l : Ledger) (k : Keeps H l) (j : ℕ) where

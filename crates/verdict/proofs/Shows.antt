@@ -6,7 +6,7 @@ use Rattle.graph.specs.Edges.{Within}
 use Rattle.graph.specs.Nodes.{has}
 use Rattle.graph.specs.Orders.{Test, Free, but, Ordered, Orders}
 use Rattle.graph.specs.Paths.{Relation, Path, edge, ◌then◌, Cycle, ◌∈◌, Distinct, Linked, Forward, ShowsCycle}
-use Rattle.graph.proofs.Lists.{distinct_few}
+use Rattle.graph.proofs.Lists.{distinct_few, in_at}
 use Rattle.graph.proofs.Orders.{but_parts, but_both}
 use Rattle.graph.proofs.Parts.{T-both, T-parts}
 use Rattle.graph.proofs.Paths.{path_map}
@@ -209,17 +209,17 @@ shows_distinct E (n ∷ ns) h = h.1
 
 -- the nodes that are shown are those of jobs, and the list has places for them
 module _ (l : Ledger) (n : ArrayVec ℕ) (places : ℕ) (r : Ready l places) where
-  pub cycle_jobs : NodeCycle l (Some n) → (q : ℕ) → q ∈ n.items → q < count l
-  cycle_jobs c = cycle_inside r.0.0 l r.0.1 n.items c.1
+  pub cycle_jobs : NodeCycle l (Some n) → (k : ℕ) → k < length n.items → get_or n.items k 0 < count l
+  cycle_jobs c k b = cycle_inside r.0.0 l r.0.1 n.items c.1 (get_or n.items k 0) (in_at n.items k b)
 
   pub cycle_fits : NodeCycle l (Some n) → length n.items ≤ places
-  cycle_fits c = places_fit l n.items places r.1 (shows_distinct _ n.items c.1) (cycle_jobs c)
+  cycle_fits c = places_fit l n.items places r.1 (shows_distinct _ n.items c.1) (cycle_inside r.0.0 l r.0.1 n.items c.1)
 
-  pub order_jobs : NodeOrder l n → NodeCycle l None → (q : ℕ) → q ∈ n.items → q < count l
-  order_jobs o none = order_inside r.0.0 l r.0.1 n.items o none
+  pub order_jobs : NodeOrder l n → NodeCycle l None → (k : ℕ) → k < length n.items → get_or n.items k 0 < count l
+  order_jobs o none k b = order_inside r.0.0 l r.0.1 n.items o none (get_or n.items k 0) (in_at n.items k b)
 
   pub order_fits : NodeOrder l n → NodeCycle l None → length n.items ≤ places
-  order_fits o none = places_fit l n.items places r.1 o.distinct (order_jobs o none)
+  order_fits o none = places_fit l n.items places r.1 o.distinct (order_inside r.0.0 l r.0.1 n.items o none)
 
 -- the list after the numbers are put
 module _ (H : List Act) (l : Ledger) (k : Keeps H l) (n : ArrayVec ℕ) (before after : List ℕ) (b : length n.items ≤ length after)

@@ -52,11 +52,6 @@ FindsOpen l job None =
     ⊎ ((p : ℕ) × (p < count l) × (number_at l p ≡ job) × (has l.running p ≡ false))
 FindsOpen l job (Some p) = (p < count l) × (number_at l p ≡ job) × (has l.running p ≡ true)
 
--- the node of the job is answered, where it is open, or that a step of it at the index is out of turn
-abbrev pub TellsOpen : Ledger → ℕ → ℕ → Result ℕ JudgeRefusal → Type 0
-TellsOpen l job index (Ok p) = FindsOpen l job (Some p)
-TellsOpen l job index (Err r) = (r ≡ OutOfTurn index) × FindsOpen l job None
-
 -- the job has the next node, is open and counts
 pub record Opens (l : Ledger) (job : ℕ) (m : Ledger) : Type 0 where
   pub numbers : m.numbers.items ≡ l.numbers.items ++ job ∷ []

@@ -1,5 +1,5 @@
 // The verdict on a list of steps, with the order or the cycle that shows it.
-ghost use Rattle.std.specs.Prelude.{◌≡◌, ℕ, ◌<◌, ◌≤◌, true, false, List, length, take, drop, Some, None};
+ghost use Rattle.std.specs.Prelude.{◌≡◌, ℕ, ◌<◌, ◌≤◌, true, false, List, length, take, drop, Some, None, slice_index};
 ghost use Rattle.graph.specs.Nodes.{has};
 ghost use Rattle.graph.specs.Paths.{◌∈◌};
 ghost use Rattle.history.specs.Acts.{not_aborted};
@@ -30,7 +30,7 @@ pub enum Verdict {
 // Puts the numbers of the jobs at these nodes into the list.
 fn put(ledger: &Ledger, chosen: &NodeList, numbers: &mut [u32])
     requires fits { length chosen.now.items ≤ length numbers.old }
-    requires jobs { (n : ℕ) → n ∈ chosen.now.items → n < count ledger.now }
+    requires jobs { (k : ℕ) → k < length chosen.now.items → slice_index chosen.now.items k < count ledger.now }
     ensures front { take (length chosen.now.items) numbers.new ≡ numbered ledger.now chosen.now.items }
     ensures rest { drop (length chosen.now.items) numbers.new ≡ drop (length chosen.now.items) numbers.old }
 {
@@ -40,10 +40,12 @@ fn put(ledger: &Ledger, chosen: &NodeList, numbers: &mut [u32])
 }
 
 // Whether every node of the set stands in the list.
+#[tactic(auto, using(crate::proofs::Missing::missing_more, crate::proofs::Missing::missing_none, crate::proofs::Missing::all_there))]
 fn has_all(list: &NodeList, set: NodeSet) -> bool
     ensures all { result ≡ true → (n : ℕ) → has set n ≡ true → n ∈ list.now.items }
     ensures some { result ≡ false → ((n : ℕ) → has set n ≡ true → n ∈ list.now.items) → ⊥ }
 {
+    // A loop: each node is taken out of the set, and what is left is asked once.
     let mut missing = set;
     for node in list.iter() {
         missing = without(missing, *node);

@@ -3,7 +3,7 @@ ghost use Rattle.std.specs.Prelude.{◌≡◌, ℕ, List, [], ◌∷◌, ◌++�
 ghost use Rattle.graph.specs.Paths.{Distinct};
 ghost use Rattle.history.specs.Conflicts.{Access as Accessed, accesses};
 ghost use Rattle.trace.specs.declared.act.Act.TheVariants.{Open, Commit, Abort};
-ghost use Rattle.verdict.specs.Ledgers.{Keeps, ReadsSteps, Takes, TellsOpen, UsersOf};
+ghost use Rattle.verdict.specs.Ledgers.{Keeps, ReadsSteps, Takes, UsersOf};
 ghost use Rattle.verdict.specs.Turns.{acts};
 ghost use Rattle.verdict.specs.Users.{Accesses, act_of};
 
@@ -63,15 +63,6 @@ fn users(ledger: &Ledger, before: &[Step], item: u32) -> Users
     }
 }
 
-// The node of a job that is open, for a step of it at the index.
-fn open_node(ledger: &Ledger, index: usize, job: u32) -> Result<usize, JudgeRefusal>
-    ensures { TellsOpen ledger.now job index result }
-{
-    ledger
-        .find_open(job)
-        .ok_or(JudgeRefusal::OutOfTurn { index })
-}
-
 // Takes an access of the item by the job, after the steps before.
 fn access(
     ledger: &mut Ledger,
@@ -83,7 +74,10 @@ fn access(
     requires { Keeps (acts before.now) ledger.old }
     ensures { (value : ℕ) → Takes (acts before.now) (act_of access job item value) (length before.now) result ledger.new }
 {
-    let node = open_node(ledger, before.len(), job)?;
+    let index = before.len();
+    let node = ledger
+        .find_open(job)
+        .ok_or(JudgeRefusal::OutOfTurn { index })?;
     let users = users(ledger, before, item);
     ledger.draw(node, users.conflicting(access));
     ledger.note(access, item, node);
@@ -91,6 +85,7 @@ fn access(
 }
 
 // Takes the opening of a job, at the index.
+#[tactic(auto, using(crate::proofs::Ledgers::found_before, crate::proofs::Ledgers::found_never, crate::proofs::Ledgers::counted))]
 fn open(ledger: &mut Ledger, index: usize, job: u32) -> Result<(), JudgeRefusal>
     ensures { (H : List Act) → Keeps H ledger.old → Takes H (Open job) index result ledger.new }
 {
@@ -108,7 +103,9 @@ fn open(ledger: &mut Ledger, index: usize, job: u32) -> Result<(), JudgeRefusal>
 fn commit(ledger: &mut Ledger, index: usize, job: u32) -> Result<(), JudgeRefusal>
     ensures { (H : List Act) → Keeps H ledger.old → Takes H (Commit job) index result ledger.new }
 {
-    let node = open_node(ledger, index, job)?;
+    let node = ledger
+        .find_open(job)
+        .ok_or(JudgeRefusal::OutOfTurn { index })?;
     ledger.end(node);
     Ok(())
 }
@@ -117,7 +114,9 @@ fn commit(ledger: &mut Ledger, index: usize, job: u32) -> Result<(), JudgeRefusa
 fn abort(ledger: &mut Ledger, index: usize, job: u32) -> Result<(), JudgeRefusal>
     ensures { (H : List Act) → Keeps H ledger.old → Takes H (Abort job) index result ledger.new }
 {
-    let node = open_node(ledger, index, job)?;
+    let node = ledger
+        .find_open(job)
+        .ok_or(JudgeRefusal::OutOfTurn { index })?;
     ledger.strike(node);
     Ok(())
 }
@@ -140,6 +139,7 @@ fn follow(ledger: &mut Ledger, before: &[Step], act: &Act) -> Result<(), JudgeRe
 }
 
 // The ledger of all steps, or why they are not judged.
+#[tactic(auto, using(crate::proofs::Steps::read_refused, crate::proofs::Steps::read_all))]
 pub(crate) fn read_steps(steps: &[Step]) -> Result<Ledger, JudgeRefusal>
     ensures { ReadsSteps (acts steps.now) result }
 {

@@ -1,6 +1,5 @@
 use Rattle.std.proofs.Common.{◌<◌, length, arith}
-use Rattle.graph.proofs.Orders.{placed_room, placed_next, placed_all}
-use Rattle.graph.proofs.Stuck.{ordered_orders}
+use Rattle.graph.proofs.Orders.{placed_room}
 use Rattle.graph.proofs.order.topological_order.Goals as goal
 use Rattle.graph.proofs.order.topological_order.Goals.{In-Some}
 
@@ -18,14 +17,3 @@ push-requires g c = (omega arith, space g (goal.at.push-requires g c).In-Some)
 
 pub loop-node-smaller : goal.loop-node-smaller
 loop-node-smaller g c = omega (arith, space g (goal.at.loop-node-smaller g c).In-Some)
-
-pub loop-node-preserved : goal.loop-node-preserved
-loop-node-preserved g c =
-    rw c.push.ensures.items
-    (placed_next _ _ c.args.keys.now _ c.loop-node.order.items _ _ c.in-Some.node c.loop-node.invariant c.in-Some.ensures c.without-left.ensures)
-
-pub returns : goal.returns
-returns g c =
-    let graph = c.args.graph.now in
-    ordered_orders (g.G.Graph.size graph) (g.G.Graph.leads graph) c.args.keys.now c.args.set c.loop-node.order.items
-    (placed_all _ _ c.args.keys.now _ c.loop-node.order.items _ c.loop-node.invariant c.in_default.ensures)

@@ -1,7 +1,6 @@
-use Rattle.std.proofs.Common.{◌≡◌, ℕ, ltb, sym, ap, ◌∙◌}
-use Rattle.std.proofs.lemmas.Bool.{both_ways}
+use Rattle.std.proofs.Common.{◌≡◌, ℕ, ltb, ap, ◌∙◌}
 use Rattle.graph.specs.Nodes.{has}
-use Rattle.graph.proofs.Reach.{set_edge, edge_set, begins_inside, reaching_first, reaching_all, reaching_more, reaching_less}
+use Rattle.graph.proofs.Reach.{set_edge, edge_set, begins_inside, reaching_first, reaching_more, reaching_less}
 use Rattle.graph.proofs.path.reaches.Goals as goal
 
 pub loop-at-init : goal.loop-at-init
@@ -42,9 +41,3 @@ loop-at-preserved g c =
           (edge_set _ (g.G.Graph.leads graph) c.in-Some.at c.sources-in-Some.result c.below-nodes.result _ inside c.sources-in-Some.ensures nodes c.intersection.ensures)
           c.minus-fresh.ensures c.union-seen.ensures c.without.ensures c.union-left.ensures,
     )
-
-pub returns : goal.returns
-returns g c = record {
-  reached = λ e. c.loop-at.invariant.2.leads_on c.args.start (sym c.contains.ensures ∙ e);
-  missed = λ e p. both_ways _ (sym c.contains.ensures ∙ e) (reaching_all _ c.args.goal _ _ c.loop-at.invariant.2 c.in_default.ensures c.args.start p);
-}

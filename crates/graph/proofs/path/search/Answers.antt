@@ -1,18 +1,12 @@
 use Rattle.std.proofs.Common.{◌<◌, T, sym, refl, ◌∙◌, subst, arith}
 use Rattle.graph.specs.Graphs.{edges_of}
-use Rattle.graph.proofs.Search.{Ended, at_found, counted, room, searched_none, searching_none, searching_skip, searching_noted, searched_more, ended_all, ended_found, ended_at, ended_none, way_shown, shows_finds}
+use Rattle.graph.proofs.Search.{Ended, at_found, counted, room, searched_none, searching_skip, searching_noted, ended_all, ended_found, ended_at, ended_none, way_shown, shows_finds}
 use Rattle.graph.proofs.path.search.Goals as goal
 use Rattle.graph.proofs.path.search.Goals.{After-branch-at, then-leads+else-to-goal, else-leads, else-search-test, then-search-test+then-loop-to-test+then-leads+then-to-goal}
 
 pub search-init : goal.search-init
 search-init g c =
     (searched_none _ _ c.args.start c.args.goal (g.G.Graph.few c.args.graph.now) c.start-found.result c.requires c.start-found.ensures, refl)
-
-pub loop-to-init : goal.loop-to-init
-loop-to-init g c = (
-  rw c.deref.ensures.0 (searching_none _ _ c.args.start c.args.goal (g.G.Graph.few c.args.graph.now) c.search.found c.search.head c.search.invariant.0 (omega arith)),
-  c.search.invariant.1,
-)
 
 pub note-requires : goal.note-requires
 note-requires g c =
@@ -42,10 +36,6 @@ loop-to-preserved g c =
       ],
       c.loop-to.invariant.1,
     )
-
-pub search-preserved : goal.search-preserved
-search-preserved g c =
-    (searched_more _ _ _ _ (g.G.Graph.few c.args.graph.now) _ _ _ _ c.loop-to.invariant.0 (λ j e. omega (arith, e.1)), c.loop-to.invariant.1)
 
 -- how the search ends, whether by its last node or by an edge to the goal
 ended : (g : _) (c : After-branch-at g) → Ended (edges_of g.G.Graph c.args.graph.now) (g.G.Graph.size c.args.graph.now) c.args.start c.args.goal c.search-test.found c.search-test.last

@@ -1,19 +1,7 @@
-use Rattle.std.proofs.Common.{◌≡◌, ◌<◌, refl, sym, ◌∙◌, arith}
+use Rattle.std.proofs.Common.{◌<◌, sym, ◌∙◌, arith}
 use Rattle.verdict.specs.Ledgers.{count}
-use Rattle.verdict.proofs.Ledgers.{found_before, found_never, counted, keeps_open}
+use Rattle.verdict.proofs.Ledgers.{found_never, counted, keeps_open}
 use Rattle.verdict.proofs.reading.open.Goals as goal
-
-pub returns-then-is_some : goal.returns-then-is_some
-returns-then-is_some c H k =
-    (refl, found_before H c.args.ledger.now k c.args.job c.find.result c.find.ensures.found (sym c.is_some.ensures ∙ c.if-is_some.true))
-
-pub returns-then-is_full : goal.returns-then-is_full
-returns-then-is_full c H k =
-    let l = c.args.ledger.now in
-    let full : count l ≡ 64 = grind arith in (
-      found_never H l k c.args.job c.find.result c.find.ensures.found (sym c.is_some.ensures ∙ c.if-is_some.false),
-      λ room. omega (arith, counted H l k),
-    )
 
 pub returns : goal.returns
 returns c H k =

@@ -1,29 +1,12 @@
-use Rattle.std.proofs.Common.{Err, sym, ap, ◌∙◌, subst, arith}
-use Rattle.std.proofs.lemmas.Result.{err_from_is_err_and}
+use Rattle.std.proofs.Common.{sym, subst}
 use Rattle.trace.specs.declared.act.Act.TheVariants.{Open}
-use Rattle.verdict.specs.Ledgers.{ReadsSteps}
-use Rattle.verdict.specs.Turns.{acts}
-use Rattle.verdict.proofs.Steps.{ReadUpto, read_none, read_more, read_refused, read_all}
+use Rattle.verdict.proofs.Steps.{ReadUpto, read_none, read_more}
 use Rattle.verdict.proofs.reading.read_steps.Goals as goal
 
 pub loop-index-init : goal.loop-index-init
 loop-index-init c = subst (ReadUpto c.args.steps.now 0) (sym c.new-ledger.ensures) (read_none c.args.steps.now)
 
-pub follow-requires : goal.follow-requires
-follow-requires c = c.loop-index.invariant.1
-
-pub returns-in_err-follow : goal.returns-in_err-follow
-returns-in_err-follow c =
-    let p = err_from_is_err_and c.from_residual.result c.from_residual.ensures.1 in
-    let steps = c.args.steps.now in
-    subst (ReadsSteps (acts steps)) (sym (p.1 ∙ ap Err p.2))
-    (read_refused steps c.loop-index.index (record { line = 0; act = Open 0 }) c.loop-index.ledger c.follow.new.ledger c.loop-index-test.true c.loop-index.invariant
-    c.in_err-follow.field-0.0 c.in_err-follow.ensures)
-
 pub loop-index-preserved : goal.loop-index-preserved
 loop-index-preserved c =
     read_more c.args.steps.now c.loop-index.index (record { line = 0; act = Open 0 }) c.loop-index.ledger c.follow.new.ledger c.loop-index-test.true c.loop-index.invariant
     c.in_ok-follow.field-0 c.in_ok-follow.ensures
-
-pub returns : goal.returns
-returns c = read_all c.args.steps.now c.loop-index.index c.loop-index.ledger c.loop-index-test.false (omega arith) c.loop-index.invariant
