@@ -1,7 +1,7 @@
 -- Lines written one behind the other. Rests on Trips.
 use Rattle.std.proofs.Common.{◌≡◌, ℕ, ◌+◌, ◌-◌, ◌<◌, ◌≤◌, cond, leb, List, [], ◌∷◌, ◌++◌, length, get_or, take, drop, Some, None, Ok, Err, Option, Result, sym, refl, ap, ◌∙◌, subst, inl, inr, add-zero, add_assoc, zero-add, arith, length-append}
 use native.Mathlib.Nat.{sub-zero}
-use Rattle.std.proofs.lemmas.List.{append-nil, append_assoc, take_at, drop_at, length-take-le, drop_all, drop-drop, take_more, take_all, drop_more}
+use Rattle.std.proofs.lemmas.List.{append-nil, append_assoc, take_at, drop_at, length-take-le, drop_all, drop-drop, take_more, take_all, drop_more, flat_map_more}
 use Rattle.std.proofs.lemmas.Bool.{cases_Bool, leb-true}
 use Rattle.trace.specs.declared.act.Act.{Act}
 use Rattle.trace.specs.declared.act.Act.TheVariants.{Open}
@@ -101,16 +101,12 @@ over_more out s t place n e h =
     let b : drop (n + length t) (over place s out) ≡ drop (place + length (s ++ t)) out = sym (drop-drop (length t) n (over place s out)) ∙ ap (λ l. drop (length t) (drop n l)) whole ∙ ap (drop (length t)) (drop_at front rest n long) ∙ drop-drop (length t) (place + length s) out ∙ ap (λ m. drop m out) (add_assoc place (length s) (length t) ∙ ap (λ m. place + m) (sym (length-append s t))) in
     (λ i. a i ++ (t ++ b i)) ∙ append_assoc (take place out) s (t ++ drop (place + length (s ++ t)) out) ∙ ap (λ l. take place out ++ l) (sym (append_assoc s t (drop (place + length (s ++ t)) out)))
 
-pub written_append : (xs ys : List Act) → written (xs ++ ys) ≡ written xs ++ written ys
-written_append [] ys = refl
-written_append (a ∷ xs) ys = ap (λ l. line_of a ++ l) (written_append xs ys) ∙ sym (append_assoc (line_of a) (written xs) (written ys))
-
 abbrev pub act_at : List Act → ℕ → Act
 act_at acts i = get_or acts i (Open 0)
 
 written_more : (acts : List Act) (i : ℕ) → i < length acts → written (take (i + 1) acts) ≡ written (take i acts) ++ line_of (act_at acts i)
 written_more acts i h =
-    ap written (take_more acts i (Open 0) h) ∙ written_append (take i acts) (act_at acts i ∷ []) ∙ ap (λ l. written (take i acts) ++ l) (append-nil (line_of (act_at acts i)))
+    ap written (take_more acts i (Open 0) h) ∙ sym (flat_map_more line_of [] (take i acts) (act_at acts i))
 
 written_left : (acts : List Act) (i : ℕ) → i < length acts → length (written (drop i acts)) ≡ length (line_of (act_at acts i)) + length (written (drop (i + 1) acts))
 written_left acts i h =
