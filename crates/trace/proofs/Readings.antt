@@ -24,7 +24,7 @@ ended_reading room n start bs ne =
     ap (reading room n start) (parted_ended 10 bs ne) ∙ reading_line room n start (before 10 bs) (parted 10 (behind 10 bs)) (some_piece 10 (behind 10 bs))
 
 apart : {X Y : Type 0} (x : X) (y : Y) → Ok x ≡ Err y → ⊥
-apart x y e = let z : ◌≡◌ {A = ℕ} 0 1 = cc in omega arith
+apart x y e = cc
 
 unended_reading : (room n start : ℕ) (bs : List ℕ) → 0 < length bs → length (before 10 bs) ≡ length bs → reading room n start (parted 10 bs) ≡ ends (Some (at_fault (place_of n start) Unended))
 unended_reading room n start [] h e = absurd (omega arith)

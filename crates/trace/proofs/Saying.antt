@@ -23,11 +23,11 @@ use Rattle.trace.specs.Numbers.{number_of, is_number, leading_zero}
 use Rattle.trace.specs.Pieces.{parted}
 use Rattle.trace.proofs.Parting.{Free, free_append, parted_at, parted_none, rejoined, rejoin}
 
-apart : {X Y : Type 0} (x : X) (y : Y) → Ok x ≡ Err y → ⊥
-apart x y e = let z : ◌≡◌ {A = ℕ} 0 1 = cc in omega arith
-
 pub apart' : {X Y : Type 0} (x : X) (y : Y) → Err y ≡ Ok x → ⊥
-apart' x y e = let z : ◌≡◌ {A = ℕ} 0 1 = cc in omega arith
+apart' x y e = cc
+
+pub same_ok : {X F : Type 0} (x y : X) → ◌≡◌ {A = Result X F} (Ok x) (Ok y) → x ≡ y
+same_ok x y e = cc
 
 -- numbers
 
@@ -54,9 +54,6 @@ value_said most ds n small e l v =
     let below = leb-true (value 10 ds) most l in
     (ap decimal (sym v) ∙ decimal-digits_value own ds q.1 some (lone_zero ds p.1 some) (omega arith), omega arith)
 
-ok_same : (m n : ℕ) → ◌≡◌ {A = Result ℕ NumberFault} (Ok m) (Ok n) → m ≡ n
-ok_same m n e = cc
-
 -- digits that are read as a number are the digits that are written for it
 number_said : (most : ℕ) (ds : List ℕ) (n : ℕ) → most < 2 ^ 32 → number_of most ds ≡ Ok n → (decimal n ≡ ds) × (n ≤ most)
 number_said most ds n small h =
@@ -66,7 +63,7 @@ number_said most ds n small h =
           let g : taken most ds ≡ Ok n = sym (ap (λ b. cond b (taken most ds) (Err NotANumber)) e) ∙ h in
           elim (cases_Bool (leb (value 10 ds) most)) [
             | inr l ↦ absurd (apart' _ _ (sym (ap (λ b. cond b (Ok (value 10 ds)) (Err AboveLimit)) l) ∙ g))
-            | inl l ↦ value_said most ds n small e l (ok_same _ _ (sym (ap (λ b. cond b (Ok (value 10 ds)) (Err AboveLimit)) l) ∙ g))
+            | inl l ↦ value_said most ds n small e l (same_ok _ _ (sym (ap (λ b. cond b (Ok (value 10 ds)) (Err AboveLimit)) l) ∙ g))
           ]
     ]
 
@@ -123,9 +120,6 @@ vacant_said column (b ∷ bs) u h = absurd (apart' _ _ h)
 carried : {X Y F : Type 0} (r : Result X F) (f : X → Result Y F) (y : Y) → and_then r f ≡ Ok y → (x : X) × (r ≡ Ok x) × (f x ≡ Ok y)
 carried (Ok x) f y h = (x, refl, h)
 carried (Err e) f y h = absurd (apart' _ _ h)
-
-pub same_ok : {X F : Type 0} (x y : X) → ◌≡◌ {A = Result X F} (Ok x) (Ok y) → x ≡ y
-same_ok x y e = cc
 
 -- what the four shapes of a line say
 

@@ -88,7 +88,7 @@ pub struct LineFault {
 }
 
 impl LineFault {
-    // The number of the cause, 1 to 8.
+    // The number of the cause, 1 to 8. By a method, as all numbers here: its name says which number it is.
     pub fn cause(&self) -> u32
         ensures { result ≡ cause_of self.now.what }
     {

@@ -1,5 +1,5 @@
 -- A line that has four fields. Rests on the laws of pieces.
-use Rattle.std.proofs.Common.{◌≡◌, ℕ, ◌<◌, eqb, List, [], ◌∷◌, length, get_or, drop, Some, None, Err, sym, refl, ap, ◌∙◌, subst, inl, inr, arith}
+use Rattle.std.proofs.Common.{◌≡◌, ℕ, ◌<◌, eqb, List, [], ◌∷◌, length, get_or, drop, Some, Err, sym, refl, ap, ◌∙◌, subst, inl, inr, arith}
 use Rattle.trace.specs.declared.fault.FieldFault.TheVariants.{NoKind}
 use Rattle.trace.specs.declared.fault.LineCause.TheVariants.{Field}
 use Rattle.std.proofs.lemmas.Bool.{cases_Bool, eqb-true}
@@ -32,10 +32,7 @@ lone_kind c r = elim (cases_Bool (eqb c 44)) [ inl e ↦ rw e (ap kind_of (sym (
 
 -- a letter that names a kind is no comma
 behind_kind : (c : ℕ) (r : List ℕ) (k : Kind) → kind_of c ≡ Some k → behind 44 (c ∷ 44 ∷ r) ≡ r
-behind_kind c r k h = elim (cases_Bool (eqb c 44)) [ inl e ↦ absurd (lost (sym (ap kind_of (eqb-true c 44 e)) ∙ h)) | inr e ↦ rw e refl ]
-  where
-    lost : None ≡ Some k → ⊥
-    lost q = let z : ◌≡◌ {A = ℕ} 0 1 = cc in omega arith
+behind_kind c r k h = elim (cases_Bool (eqb c 44)) [ inl e ↦ let q = sym (ap kind_of (eqb-true c 44 e)) ∙ h in absurd (cc) | inr e ↦ rw e refl ]
 
 named_at : (c : ℕ) (r : List ℕ) (k : Kind) → length (parted 44 (c ∷ 44 ∷ r)) ≡ 4 → kind_of c ≡ Some k → act_on (c ∷ 44 ∷ r) ≡ in_line (act_of k (before 44 r) (before 44 (behind 44 r)) (behind 44 (behind 44 r)))
 named_at c r k four h =

@@ -1,6 +1,5 @@
 -- The reading of a trace, as the loop of the code goes on with it. Rests on the laws of one line.
-use Rattle.std.proofs.Common.{◌≡◌, ℕ, suc, ◌+◌, ◌-◌, ◌<◌, ◌≤◌, true, false, cond, eqb, ◌==◌, position, List, [], ◌∷◌, ◌++◌, length, take, drop, set, Some, None, Ok, Err, Option, Result, sym, refl, ap, ◌∙◌, add-zero, zero-add, arith, length-drop, length-set, take-append-drop}
-use native.Mathlib.Nat.{sub-zero}
+use Rattle.std.proofs.Common.{◌≡◌, ℕ, suc, ◌+◌, ◌-◌, ◌<◌, ◌≤◌, true, false, cond, eqb, ◌==◌, position, List, [], ◌∷◌, ◌++◌, length, take, drop, set, Some, None, Ok, Err, Option, Result, sym, ap, ◌∙◌, add-zero, arith, length-drop, length-set, take-append-drop}
 use Rattle.std.proofs.lemmas.List.{take_rest, drop_all, drop-drop, take_more_set, drop-set-lt, append_assoc}
 use Rattle.std.proofs.lemmas.Bool.{eq-eqb, ne_eqb}
 use Rattle.trace.specs.declared.act.Act.{Act}
@@ -72,17 +71,6 @@ pub record Sofar (bytes : List ℕ) (entry list : List Step) (count start : ℕ)
   pub within : start ≤ length bytes
   pub told : answer_from count (left bytes list count start) ≡ answer (reading_of bytes (length entry))
   pub held : list_from count list (left bytes list count start) ≡ list_after entry (reading_of bytes (length entry))
-
-pub sofar_none : (bytes : List ℕ) (entry : List Step) → Sofar bytes entry entry 0 0
-sofar_none bytes entry = record {
-  few = omega arith;
-  room = omega arith;
-  within = omega arith;
-  told = rw (sub-zero, zero-add) refl;
-  held =
-      let r = reading_of bytes (length entry) in
-      rw sub-zero (ap (λ n. numbered 1 r.acts ++ drop n entry) (zero-add (length r.acts)));
-}
 
 -- reading on past a good line for which there is room
 left_more : (bytes : List ℕ) (list : List Step) (count start : ℕ) (a : Act) (k : ℕ) → count < length list → first_line (place_of (count + 1) start) (drop start bytes) ≡ Ok (a, k) → left bytes list count start ≡ also a (left bytes (set list count (record { line = count + 1; act = a })) (count + 1) (start + k))

@@ -35,6 +35,7 @@ fn cut(bytes: &[u8]) -> (&[u8], &[u8])
 }
 
 // The kind that a letter stands for.
+// By cases: the letters stand in the code as chars, each with its kind beside it.
 fn kind_of(c: char) -> Option<Kind>
     ensures { result ≡ kind_of c }
 {
@@ -57,8 +58,7 @@ fn filled(column: Column, field: &[u8]) -> Result<u32, FieldFault>
     if field.is_empty() {
         return Err(FieldFault::Empty { column });
     }
-    let n = number(field, column.limit()).map_err(|fault| (column, fault))?;
-    Ok(n)
+    Ok(number(field, column.limit()).map_err(|fault| (column, fault))?)
 }
 
 // A field that has to be empty.
@@ -81,6 +81,8 @@ struct Fields<'a> {
 }
 
 impl Fields<'_> {
+    // Two shapes serve five kinds. The other two kinds are read where they are named.
+
     // The job, where nothing else is filled.
     fn job_alone(&self) -> Result<u32, FieldFault>
         ensures { result ≡ job_alone self.now.job.now self.now.item.now self.now.value.now }
@@ -106,23 +108,15 @@ impl Fields<'_> {
         ensures { result ≡ act_of kind self.now.job.now self.now.item.now self.now.value.now }
     {
         match kind {
-            Kind::Open => Ok(Act::Open {
-                job: self.job_alone()?,
-            }),
-            Kind::Read => {
-                let (job, item, value) = self.all_three()?;
-                Ok(Act::Read { job, item, value })
-            }
-            Kind::Write => {
-                let (job, item, value) = self.all_three()?;
-                Ok(Act::Write { job, item, value })
-            }
-            Kind::Commit => Ok(Act::Commit {
-                job: self.job_alone()?,
-            }),
-            Kind::Abort => Ok(Act::Abort {
-                job: self.job_alone()?,
-            }),
+            Kind::Open => self.job_alone().map(|job| Act::Open { job }),
+            Kind::Read => self
+                .all_three()
+                .map(|(job, item, value)| Act::Read { job, item, value }),
+            Kind::Write => self
+                .all_three()
+                .map(|(job, item, value)| Act::Write { job, item, value }),
+            Kind::Commit => self.job_alone().map(|job| Act::Commit { job }),
+            Kind::Abort => self.job_alone().map(|job| Act::Abort { job }),
             Kind::Peek => {
                 vacant(Column::Job, self.job)?;
                 let item = filled(Column::Item, self.item)?;
@@ -140,6 +134,7 @@ impl Fields<'_> {
 }
 
 // The act of a line that has four fields.
+// By a slice pattern, once the fields are counted: the letter, its comma and the rest.
 fn read_fields(line: &[u8]) -> Result<Act, FieldFault>
     requires { length (parted 44 line.now) ≡ 4 }
     ensures { in_line result ≡ act_on line.now }
@@ -157,33 +152,22 @@ fn read_fields(line: &[u8]) -> Result<Act, FieldFault>
 fn read_line(line: &[u8], place: LinePlace) -> Result<Act, LineFault>
     ensures { result ≡ in_place place (act_on line.now) }
 {
-    let fields = count_fields(line);
-    if fields < 4 {
-        return Err(LineFault {
-            place,
-            what: LineCause::FewFields,
-        });
-    }
-    if fields > 4 {
-        return Err(LineFault {
-            place,
-            what: LineCause::ManyFields,
-        });
-    }
-    let act = read_fields(line).map_err(|fault| (place, fault))?;
-    Ok(act)
+    let what = match count_fields(line) {
+        4 => return Ok(read_fields(line).map_err(|fault| (place, fault))?),
+        0..4 => LineCause::FewFields,
+        _ => LineCause::ManyFields,
+    };
+    Err(LineFault { place, what })
 }
 
 // The act of the first line of the bytes, and its length with its line end.
 pub fn first_line(bytes: &[u8], place: LinePlace) -> Result<(Act, usize), LineFault>
     ensures { result ≡ first_line place bytes.now }
 {
-    let Some(end) = find(bytes, b'\n') else {
-        return Err(LineFault {
-            place,
-            what: LineCause::Unended,
-        });
-    };
+    let end = find(bytes, b'\n').ok_or(LineFault {
+        place,
+        what: LineCause::Unended,
+    })?;
     let act = read_line(&bytes[..end], place)?;
     Ok((act, end + 1))
 }

@@ -17,8 +17,7 @@ pub fn read_trace(bytes: &[u8], steps: &mut [Step]) -> Result<usize, ReadRefusal
     ensures reads_what_was_written { ReadsWhatWasWritten bytes.now steps.old steps.new result }
     ensures writes_back { WritesBack bytes.now steps.new result }
 {
-    // By place: a fault tells where its line starts, and so far no library iterator over lines says where
-    // each of them stands.
+    // By place: a fault tells where its line starts, which an iterator over lines does not say.
     let mut count = 0;
     let mut start = 0;
     while start < bytes.len() {

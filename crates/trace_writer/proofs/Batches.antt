@@ -1,7 +1,6 @@
 -- Lines written one behind the other. Rests on Trips.
 use Rattle.std.proofs.Common.{◌≡◌, ℕ, ◌+◌, ◌-◌, ◌<◌, ◌≤◌, cond, leb, List, [], ◌∷◌, ◌++◌, length, get_or, take, drop, Some, None, Ok, Err, Option, Result, sym, refl, ap, ◌∙◌, subst, inl, inr, add-zero, add_assoc, zero-add, arith, length-append}
-use native.Mathlib.Nat.{sub-zero}
-use Rattle.std.proofs.lemmas.List.{append-nil, append_assoc, take_at, drop_at, length-take-le, drop_all, drop-drop, take_more, take_all, drop_more}
+use Rattle.std.proofs.lemmas.List.{append_assoc, take_at, drop_at, length-take-le, drop_all, drop-drop, take_more, drop_more, flat_map_more}
 use Rattle.std.proofs.lemmas.Bool.{cases_Bool, leb-true}
 use Rattle.trace.specs.declared.act.Act.{Act}
 use Rattle.trace.specs.declared.act.Act.TheVariants.{Open}
@@ -9,7 +8,7 @@ use Rattle.trace.specs.declared.fault.WriteRefusal.{WriteRefusal}
 use Rattle.trace.specs.declared.fault.WriteRefusal.TheVariants.{ItemAboveLimit, DoesNotFit}
 use Rattle.trace.specs.Lines.{item_of, line_of, Sayable}
 use Rattle.trace.specs.Traces.{reading_of, written, AllSayable}
-use Rattle.trace_writer.specs.Writing.{over, item_checked, fitted, writing, writing_on, writing_all, plus, laid}
+use Rattle.trace_writer.specs.Writing.{over, item_checked, fitted, writing, writing_on, writing_all, plus}
 use borrow.Rule.Slice.PartMut.{put_mid}
 use Rattle.trace.proofs.Saying.{apart', same_ok}
 use Rattle.trace.proofs.Trips.{reading_written}
@@ -65,28 +64,11 @@ plus_plus : (n m : ℕ) (r : Result ℕ WriteRefusal) → plus n (plus m r) ≡ 
 plus_plus n m (Ok k) = ap Ok (sym (add_assoc n m k))
 plus_plus n m (Err why) = refl
 
-plus_none : (r : Result ℕ WriteRefusal) → plus 0 r ≡ r
-plus_none (Ok k) = ap Ok (zero-add k)
-plus_none (Err why) = refl
-
-pub measured_more : (rest : List Act) (a : Act) (total room k : ℕ) → total ≤ room → writing a (room - total) ≡ Ok k → (total + k ≤ room) × (plus (total + k) (writing_all rest (room - (total + k))) ≡ plus total (writing_all (a ∷ rest) (room - total)))
+measured_more : (rest : List Act) (a : Act) (total room k : ℕ) → total ≤ room → writing a (room - total) ≡ Ok k → (total + k ≤ room) × (plus (total + k) (writing_all rest (room - (total + k))) ≡ plus total (writing_all (a ∷ rest) (room - total)))
 measured_more rest a total room k h e =
     let w = writing_says a (room - total) k e in
     let r : room - (total + k) ≡ room - total - k = omega arith in
     (omega (arith, w.1), sym (ap (λ r. plus total (writing_on r λ k. writing_all rest (room - total - k))) e ∙ plus_plus total k (writing_all rest (room - total - k)) ∙ ap (λ m. plus (total + k) (writing_all rest m)) (sym r)))
-
-pub measured_stop : (rest : List Act) (a : Act) (total room : ℕ) (why : WriteRefusal) → writing a (room - total) ≡ Err why → Err why ≡ plus total (writing_all (a ∷ rest) (room - total))
-measured_stop rest a total room why e = sym (ap (λ r. plus total (writing_on r λ k. writing_all rest (room - total - k))) e)
-
--- one act is a list of one
-
-writing_one : (r : Result ℕ WriteRefusal) → writing_on r (λ n. Ok 0) ≡ r
-writing_one (Ok n) = ap Ok (add-zero n)
-writing_one (Err why) = refl
-
-pub one_of : (a : Act) (acts : List Act) (out last : List ℕ) (r : Result ℕ WriteRefusal) → acts ≡ a ∷ [] → r ≡ writing_all acts (length out) → last ≡ laid r (written acts) out → (r ≡ writing a (length out)) × (last ≡ laid r (line_of a) out)
-one_of a acts out last r is e l =
-    (e ∙ ap (λ acts. writing_all acts (length out)) is ∙ writing_one (writing a (length out)), l ∙ ap (λ acts. laid r (written acts) out) is ∙ ap (λ line. laid r line out) (append-nil (line_of a)))
 
 -- laying on
 
@@ -101,23 +83,16 @@ over_more out s t place n e h =
     let b : drop (n + length t) (over place s out) ≡ drop (place + length (s ++ t)) out = sym (drop-drop (length t) n (over place s out)) ∙ ap (λ l. drop (length t) (drop n l)) whole ∙ ap (drop (length t)) (drop_at front rest n long) ∙ drop-drop (length t) (place + length s) out ∙ ap (λ m. drop m out) (add_assoc place (length s) (length t) ∙ ap (λ m. place + m) (sym (length-append s t))) in
     (λ i. a i ++ (t ++ b i)) ∙ append_assoc (take place out) s (t ++ drop (place + length (s ++ t)) out) ∙ ap (λ l. take place out ++ l) (sym (append_assoc s t (drop (place + length (s ++ t)) out)))
 
-pub written_append : (xs ys : List Act) → written (xs ++ ys) ≡ written xs ++ written ys
-written_append [] ys = refl
-written_append (a ∷ xs) ys = ap (λ l. line_of a ++ l) (written_append xs ys) ∙ sym (append_assoc (line_of a) (written xs) (written ys))
-
 abbrev pub act_at : List Act → ℕ → Act
 act_at acts i = get_or acts i (Open 0)
 
 written_more : (acts : List Act) (i : ℕ) → i < length acts → written (take (i + 1) acts) ≡ written (take i acts) ++ line_of (act_at acts i)
 written_more acts i h =
-    ap written (take_more acts i (Open 0) h) ∙ written_append (take i acts) (act_at acts i ∷ []) ∙ ap (λ l. written (take i acts) ++ l) (append-nil (line_of (act_at acts i)))
+    ap written (take_more acts i (Open 0) h) ∙ sym (flat_map_more line_of [] (take i acts) (act_at acts i))
 
 written_left : (acts : List Act) (i : ℕ) → i < length acts → length (written (drop i acts)) ≡ length (line_of (act_at acts i)) + length (written (drop (i + 1) acts))
 written_left acts i h =
     ap (λ l. length (written l)) (drop_more acts i (Open 0) h) ∙ length-append (line_of (act_at acts i)) (written (drop (i + 1) acts))
-
-pub room_for : (acts : List Act) (i place n m : ℕ) → i < length acts → place + length (written (drop i acts)) ≤ n → m ≡ n → place + length (line_of (act_at acts i)) ≤ m
-room_for acts i place n m h r e = omega (arith, written_left acts i h)
 
 -- so many lines stand at the front, and there is room for the others
 pub record Laid (acts : List Act) (entry out : List ℕ) (i place : ℕ) : Type 0 where
@@ -125,9 +100,6 @@ pub record Laid (acts : List Act) (entry out : List ℕ) (i place : ℕ) : Type 
   pub long : place ≡ length (written (take i acts))
   pub room : place + length (written (drop i acts)) ≤ length entry
   pub held : out ≡ over 0 (written (take i acts)) entry
-
-pub laid_none : (acts : List Act) (entry : List ℕ) → length (written acts) ≤ length entry → Laid acts entry entry 0 0
-laid_none acts entry h = record { within = omega arith; long = refl; room = omega arith; held = sym (over_front [] entry) }
 
 pub laid_more : (acts : List Act) (entry out last : List ℕ) (i place k : ℕ) → Laid acts entry out i place → i < length acts → k ≡ length (line_of (act_at acts i)) → last ≡ over place (line_of (act_at acts i)) out → Laid acts entry last (i + 1) (place + k)
 laid_more acts entry out last i place k s h e l =
@@ -148,23 +120,12 @@ pub put_over : (out line part : List ℕ) (place n : ℕ) → part ≡ line → 
 put_over out line part place n e l =
     (λ i. take place out ++ (e i ++ drop (l i) (drop place out))) ∙ ap (λ r. take place out ++ (line ++ r)) (drop-drop (length line) place out)
 
-pub laid_all : (acts : List Act) (entry out : List ℕ) (i place : ℕ) → Laid acts entry out i place → length acts ≤ i → out ≡ over 0 (written acts) entry
-laid_all acts entry out i place s h = s.held ∙ ap (λ l. over 0 (written l) entry) (take_all i acts h)
-
 -- so many acts have been measured, and measuring on gives what measuring all of them gives
 pub record Measured (acts : List Act) (room i total : ℕ) : Type 0 where
   pub within : i ≤ length acts
   pub fits : total ≤ room
   pub told : plus total (writing_all (drop i acts) (room - total)) ≡ writing_all acts room
   pub said : AllSayable (drop i acts) → AllSayable acts
-
-pub measured_none : (acts : List Act) (room : ℕ) → Measured acts room 0 0
-measured_none acts room = record {
-  within = omega arith;
-  fits = omega arith;
-  told = plus_none _ ∙ ap (writing_all acts) (sub-zero room);
-  said = λ s. s;
-}
 
 pub measured_on : (acts : List Act) (room i total k : ℕ) → Measured acts room i total → i < length acts → writing (act_at acts i) (room - total) ≡ Ok k → Sayable (act_at acts i) → Measured acts room (i + 1) (total + k)
 measured_on acts room i total k m h e s =
@@ -176,10 +137,6 @@ measured_on acts room i total k m h e s =
       told = p.1 ∙ ap (λ l. plus total (writing_all l (room - total))) (sym d) ∙ m.told;
       said = λ t. m.said (subst AllSayable (sym d) (s, t));
     }
-
-pub measured_refused : (acts : List Act) (room i total : ℕ) (why : WriteRefusal) → Measured acts room i total → i < length acts → writing (act_at acts i) (room - total) ≡ Err why → Err why ≡ writing_all acts room
-measured_refused acts room i total why m h e =
-    measured_stop (drop (i + 1) acts) (act_at acts i) total room why e ∙ ap (λ l. plus total (writing_all l (room - total))) (sym (drop_more acts i (Open 0) h)) ∙ m.told
 
 pub measured_all : (acts : List Act) (room i total : ℕ) → Measured acts room i total → length acts ≤ i → (Ok total ≡ writing_all acts room) × AllSayable acts
 measured_all acts room i total m h =

@@ -16,6 +16,7 @@ use trace::fault::{Column, WriteRefusal};
 const LONGEST_LINE: usize = 35;
 
 // The byte that a kind's letter is written as.
+// By cases: the letters stand in the code as chars, as in the reader.
 fn byte_of(c: char) -> u8
     requires { (k : AnyKind) × (c ≡ letter k) }
     ensures { result ≡ c }
@@ -108,6 +109,7 @@ fn put_lines(out: &mut [u8], acts: &[Act])
     requires { length (written acts.now) ≤ length out.old }
     ensures { out.new ≡ over 0 (written acts.now) out.old }
 {
+    // By place: each line goes behind those before it, into bytes that are lent as one slice.
     let mut place = 0;
     for act in acts {
         let line = line(act);

@@ -1,6 +1,4 @@
-use Rattle.std.proofs.Common.{ap, arith}
-use Rattle.std.proofs.lemmas.List.{take_all}
-use Rattle.std.specs.Str.Parse.{digits_value}
+use Rattle.std.proofs.Common.{arith}
 use Rattle.trace_reader.proofs.Figures.{one_more}
 use Rattle.trace_reader.proofs.number.digits_value.Goals as goal
 
@@ -20,6 +18,3 @@ loop-digit-preserved c = record {
   fits = omega (arith, c.in_ok-total.ensures);
   so_far = omega (arith, one_more c.args.digits.now c.loop-digit.digit-index c.requires c.loop-digit-test.true, c.in_ok-total.ensures, c.in_ok-checked_mul.ensures, c.from.ensures);
 }
-
-pub returns : goal.returns
-returns c = let e = ap (digits_value 10) (take_all _ c.args.digits.now c.loop-digit-test.false) in (omega arith, omega arith)

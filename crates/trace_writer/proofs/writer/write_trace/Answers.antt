@@ -4,15 +4,10 @@ use Rattle.trace_writer.proofs.Batches.{writing_all_says, trace_reads_back, over
 use Rattle.trace.proofs.Saying.{same_ok}
 use Rattle.trace_writer.proofs.writer.write_trace.Goals as goal
 
-pub returns : goal.returns
-returns c =
+pub returns-clause-reads_back : goal.returns-clause-reads_back
+returns-clause-reads_back c =
     let acts = c.args.acts.now in
     let out = c.args.out.now in
     let said = c.in_ok-length.ensures in
     let long = (writing_all_says acts (length out) c.in_ok-length.length (sym said.answered)).0 in
-    let after = c.put_lines.ensures ∙ over_front (written acts) out in
-    record {
-      answered = said.answered;
-      after = after;
-      reads_back = λ n e. trace_reads_back acts out c.put_lines.new.out n (said.sayable _ refl) (sym (same_ok _ _ e) ∙ long) after;
-    }
+    λ n e. trace_reads_back acts out c.put_lines.new.out n (said.sayable _ refl) (sym (same_ok _ _ e) ∙ long) (c.put_lines.ensures ∙ over_front (written acts) out)
