@@ -21,8 +21,8 @@ impl Core {
         next_free(&jobs.edges, &keys, union(running, committed), committed)
     }
 
-    // Retires one job after another that may, writes their numbers into the list, until it is full or no
-    // job is left that may, and answers how many.
+    // Takes out one job after another that may retire and writes their numbers into the list, until it is
+    // full or no job is left that may. Answers how many.
     pub fn retire(&mut self, list: &mut [u32]) -> usize
         ensures { (values : List ℕ) (room : ℕ) → Retires (machine self.old values room) list.old result (machine self.new values room) list.new }
     {
