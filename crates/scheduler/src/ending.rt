@@ -6,7 +6,7 @@ ghost use Rattle.scheduler.specs.Reading.{RunsAt, Stopped, Counted, held_below};
 ghost use Rattle.scheduler.specs.Slots.{slot_of};
 
 use super::hub_core::Core;
-use super::slots::{SlotStatus, find};
+use super::slots::SlotStatus;
 use super::sweeps::{clear_edges, clear_items, release_items};
 use history::refusal::Refusal;
 
@@ -16,7 +16,7 @@ impl Core {
     pub(crate) fn running(&self, job: u32) -> Result<u32, Refusal>
         ensures { MatchResult result (RunsAt self.now.tables job) (Stopped self.now.tables job) }
     {
-        let slot = find(&self.tables.jobs.slots, job).ok_or(Refusal::NotPresent)?;
+        let slot = self.tables.jobs.find(job).ok_or(Refusal::NotPresent)?;
         match self.tables.jobs.slots[slot].status {
             SlotStatus::Free => Err(Refusal::NotPresent),
             SlotStatus::Running => Ok(slot as u32),

@@ -5,7 +5,6 @@ ghost use Rattle.scheduler.specs.Cores.{machine};
 ghost use Rattle.scheduler.specs.Reading.{TakesSlot};
 
 use super::hub_core::Core;
-use super::slots::find_free;
 use super::tables::{FREE, IDLE, JobTable, Tables};
 use history::refusal::Refusal;
 
@@ -32,7 +31,7 @@ impl Core {
         ensures opens { (values : List ℕ) (room : ℕ) → Opens (machine self.old values room) result (machine self.new values room) }
         ensures slot { TakesSlot self.old.tables result self.new.tables }
     {
-        let free = find_free(&self.tables.jobs.slots).ok_or(Refusal::TableFull)?;
+        let free = self.tables.jobs.find_free().ok_or(Refusal::TableFull)?;
         let job = u32::try_from(self.tables.next).map_err(|_| Refusal::NumbersSpent)?;
         self.tables.jobs.slots[free].settle(job);
         self.tables.next += 1;

@@ -5,7 +5,7 @@ ghost use Rattle.scheduler.specs.Cores.{machine};
 ghost use Rattle.scheduler.specs.Reading.{NextRetires};
 
 use super::hub_core::Core;
-use super::slots::{SlotStatus, numbers, slots_with};
+use super::slots::SlotStatus;
 use graph::nodes::union;
 use graph::order::next_free;
 
@@ -15,14 +15,14 @@ impl Core {
         ensures { NextRetires self.now.tables result }
     {
         let jobs = &self.tables.jobs;
-        let committed = slots_with(&jobs.slots, SlotStatus::Committed);
-        let running = slots_with(&jobs.slots, SlotStatus::Running);
-        let keys = numbers(&jobs.slots);
+        let committed = jobs.slots_with(SlotStatus::Committed);
+        let running = jobs.slots_with(SlotStatus::Running);
+        let keys = jobs.numbers();
         next_free(&jobs.edges, &keys, union(running, committed), committed)
     }
 
-    // Retires one job after another that may, writes their numbers into the list, until it is full or no
-    // job is left that may, and answers how many.
+    // Takes out one job after another that may retire and writes their numbers into the list, until it is
+    // full or no job is left that may. Answers how many.
     pub fn retire(&mut self, list: &mut [u32]) -> usize
         ensures { (values : List ℕ) (room : ℕ) → Retires (machine self.old values room) list.old result (machine self.new values room) list.new }
     {

@@ -1,8 +1,9 @@
-// The slots of the job table, and how a job's is found.
+// The slots of the job table, and how they are found.
 ghost use Rattle.std.specs.Prelude.{◌≡◌, position};
 ghost use Rattle.scheduler.specs.declared.slots.SlotStatus.TheVariants.{Free, Running, Committed};
 ghost use Rattle.scheduler.specs.Slots.{is_free as free, belongs as taken_by, SlotsWith, numbers as jobs};
 
+use super::tables::JobTable;
 use graph::nodes::with;
 
 // What a slot says of its job.
@@ -60,37 +61,39 @@ impl Slot {
     }
 }
 
-// The slot that belongs to the job, if one does.
-pub(crate) fn find(slots: &[Slot; 32], job: u32) -> Option<usize>
-    ensures { result ≡ position (taken_by job) slots.now }
-{
-    slots.iter().position(|slot| slot.belongs(job))
-}
-
-// The first free slot, if one is free.
-pub(crate) fn find_free(slots: &[Slot; 32]) -> Option<usize>
-    ensures { result ≡ position free slots.now }
-{
-    slots.iter().position(|slot| slot.is_free())
-}
-
-// The set of the slots that say this.
-#[tactic(auto, using(graph::proofs::Words::bit_none))]
-pub(crate) fn slots_with(slots: &[Slot; 32], status: SlotStatus) -> u64
-    ensures { SlotsWith status slots.now result }
-{
-    let mut set = 0;
-    for (k, slot) in slots.iter().enumerate() {
-        if slot.status == status {
-            set = with(set, k);
-        }
+impl JobTable {
+    // The slot that belongs to the job, if one does.
+    pub(crate) fn find(&self, job: u32) -> Option<usize>
+        ensures { result ≡ position (taken_by job) self.now.slots }
+    {
+        self.slots.iter().position(|slot| slot.belongs(job))
     }
-    set
-}
 
-// The numbers in the slots, free ones too.
-pub(crate) fn numbers(slots: &[Slot; 32]) -> [u32; 32]
-    ensures { result ≡ jobs slots.now }
-{
-    slots.map(|slot| slot.job)
+    // The first free slot, if one is free.
+    pub(crate) fn find_free(&self) -> Option<usize>
+        ensures { result ≡ position free self.now.slots }
+    {
+        self.slots.iter().position(|slot| slot.is_free())
+    }
+
+    // The set of the slots that say this.
+    #[tactic(auto, using(graph::proofs::Words::bit_none))]
+    pub(crate) fn slots_with(&self, status: SlotStatus) -> u64
+        ensures { SlotsWith status self.now.slots result }
+    {
+        let mut set = 0;
+        for (k, slot) in self.slots.iter().enumerate() {
+            if slot.status == status {
+                set = with(set, k);
+            }
+        }
+        set
+    }
+
+    // The numbers in the slots, free ones too.
+    pub(crate) fn numbers(&self) -> [u32; 32]
+        ensures { result ≡ jobs self.now.slots }
+    {
+        self.slots.map(|slot| slot.job)
+    }
 }
