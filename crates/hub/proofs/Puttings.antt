@@ -6,7 +6,15 @@ use Rattle.history.specs.Machine.{State, those, rising, holds, held_value, holdi
 use Rattle.scheduler.specs.Cores.{value_of}
 use Rattle.store.specs.Stores.{Puts, Turns}
 use Rattle.store.specs.declared.store.PutRefused.{PutRefused}
-use Rattle.hub.specs.Putting.{PutAll, PutInTurn, held_pairs, with_values}
+use Rattle.hub.specs.Putting.{PutInTurn, held_pairs, with_values}
+
+-- the store has these values and this room after what job j held in the state s was put into it: each put
+-- took at most one of the room, and nothing else did
+abbrev pub PutAll : State → ℕ → List ℕ → ℕ → Type 0
+PutAll s j values room =
+    (values ≡ put_all s.held (holdings s j) s.values)
+    × (s.room ≤ room + length (holdings s j))
+    × (length (holdings s j) ≡ 0 → room ≡ s.room)
 
 -- the items below n that job j holds, rising
 unfoldable pub held_below : (ℕ → Option Holding) → ℕ → ℕ → List ℕ
