@@ -1,8 +1,8 @@
 -- Requests made on a hub: the run that they make, and the replies. Rests on Requests and on the machine.
 use Rattle.std.specs.Prelude.{◌≡◌, ℕ, List, [], ◌∷◌, ◌++◌, length, take, drop, Ok, Err, Result}
 use Rattle.history.specs.declared.refusal.Refusal.{Refusal}
-use Rattle.history.specs.declared.refusal.Refusal.TheVariants.{TableFull, NumbersSpent, NotPresent, AlreadyCommitted, ItemNotServed, ItemHeld, ClosesCycle, NoRoom}
-use Rattle.history.specs.Refusals.{refusal_number}
+use Rattle.std.specs.Option.{unwrap_or}
+use Rattle.history.specs.Refusals.{refusal_number, holder}
 use Rattle.history.specs.declared.answer.Answer.{Answer as Told}
 use Rattle.history.specs.declared.answer.Answer.TheVariants.{Number, Done, Count}
 use Rattle.history.specs.Machine.{State, Answer}
@@ -14,22 +14,15 @@ use Rattle.entry.specs.declared.request.Reply.{Reply}
 use Rattle.entry.specs.Requests.{known}
 
 -- the number that goes with a refusal: the holder's, or 0
-abbrev pub holder : Refusal → ℕ
-holder TableFull = 0
-holder NumbersSpent = 0
-holder NotPresent = 0
-holder AlreadyCommitted = 0
-holder ItemNotServed = 0
-holder (ItemHeld j) = j
-holder ClosesCycle = 0
-holder NoRoom = 0
+abbrev pub holder_or_0 : Refusal → ℕ
+holder_or_0 r = unwrap_or (holder r) 0
 
 -- what is replied: 0 or the number of the refusal, and the number given or read, how many retired, or the holder
 abbrev pub reply_of : Result Told Refusal → Reply
 reply_of (Ok (Number n)) = record { code = 0; number = n }
 reply_of (Ok Done) = record { code = 0; number = 0 }
 reply_of (Ok (Count n)) = record { code = 0; number = n }
-reply_of (Err r) = record { code = refusal_number r; number = holder r }
+reply_of (Err r) = record { code = refusal_number r; number = holder_or_0 r }
 
 -- the same of the machine's answer
 abbrev pub reply : Answer → Reply

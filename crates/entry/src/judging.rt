@@ -19,6 +19,7 @@ fn decode(requests: &[Request], steps: &mut [Step]) -> usize
         let Some(act) = request.act() else {
             return at;
         };
+        // By index: of the places that a zip with `iter_mut` writes, an invariant can say nothing.
         steps[at] = Step { line: at, act };
     }
     requests.len()

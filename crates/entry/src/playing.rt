@@ -43,6 +43,7 @@ fn play(hub: &mut Hub<MemoryStore>, requests: &[Request], replies: &mut [Reply])
         let Some(act) = request.act() else {
             return at;
         };
+        // By index: of the places that a zip with `iter_mut` writes, an invariant can say nothing.
         replies[at] = hub.take(act, &mut list).into();
     }
     requests.len()

@@ -24,7 +24,7 @@ pub struct Reply {
 }
 
 impl Request {
-    // The act of the request, if its kind is known.
+    // The act of the request, if its kind is known. A kind is a number, since callers in C give it.
     pub(crate) fn act(&self) -> Option<Act>
         ensures { result ≡ act_of self.now }
     {

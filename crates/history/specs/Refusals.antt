@@ -1,5 +1,5 @@
--- The refusals of a hub: their numbers, and which of them aborts the job. Rests on nothing.
-use Rattle.std.specs.Prelude.{ℕ, Bool, true, false}
+-- The refusals of a hub: their numbers, which of them aborts the job, and who holds the item. Rests on nothing.
+use Rattle.std.specs.Prelude.{ℕ, Bool, true, false, Some, None, Option}
 use Rattle.history.specs.declared.refusal.Refusal.{Refusal}
 use Rattle.history.specs.declared.refusal.Refusal.TheVariants.{TableFull, NumbersSpent, NotPresent, AlreadyCommitted, ItemNotServed, ItemHeld, ClosesCycle, NoRoom}
 
@@ -24,3 +24,14 @@ aborts ItemNotServed = false
 aborts (ItemHeld holder) = false
 aborts ClosesCycle = true
 aborts NoRoom = false
+
+-- a refusal tells who holds the item, if it is held
+abbrev pub holder : Refusal → Option ℕ
+holder TableFull = None
+holder NumbersSpent = None
+holder NotPresent = None
+holder AlreadyCommitted = None
+holder ItemNotServed = None
+holder (ItemHeld job) = Some job
+holder ClosesCycle = None
+holder NoRoom = None

@@ -6,7 +6,7 @@ use Rattle.scheduler.specs.Cores.{machine, Ends}
 use Rattle.scheduler.specs.declared.hub_core.Core.{Core}
 use Rattle.scheduler.specs.Reading.{state}
 use Rattle.hub.specs.Asking.{MayCommit}
-use Rattle.hub.specs.Putting.{PutAll}
+use Rattle.hub.proofs.Puttings.{PutAll}
 
 commit_granted : (s : State) (j : ℕ) (t : State) → not_running (s.status j) ≡ None → length (holdings s j) ≤ s.room → t ≡ has_ended j t.room s
     → s.room ≤ t.room + length (holdings s j) → (length (holdings s j) ≡ 0 → t.room ≡ s.room) → Steps s (commit j) done t

@@ -1,17 +1,9 @@
 -- What a commit does to the store: it has got what a job held, or is left alone. Rests on the machine.
-use Rattle.std.specs.Prelude.{◌≡◌, ℕ, ◌+◌, ◌≤◌, List, [], ◌∷◌, map, length, Ok, Err, Option, Result}
+use Rattle.std.specs.Prelude.{◌≡◌, ℕ, List, [], ◌∷◌, map, Ok, Err, Option, Result}
 use Rattle.trace.specs.declared.act.Act.{Act}
 use Rattle.trace.specs.declared.act.Act.TheVariants.{Open, Read, Write, Commit, Abort, Peek, Retire}
 use Rattle.history.specs.declared.holding.Holding.{Holding}
-use Rattle.history.specs.Machine.{State, held_value, holdings, put_all}
-
--- the store has these values and this room after what job j held in the state s was put into it: each put
--- took at most one of the room, and nothing else did
-abbrev pub PutAll : State → ℕ → List ℕ → ℕ → Type 0
-PutAll s j values room =
-    (values ≡ put_all s.held (holdings s j) s.values)
-    × (s.room ≤ room + length (holdings s j))
-    × (length (holdings s j) ≡ 0 → room ≡ s.room)
+use Rattle.history.specs.Machine.{State, held_value, holdings}
 
 -- where a call was refused, the store is the one that it was before
 abbrev pub LeavesIfRefused : {A E S : Type 0} → Result A E → S → S → Type 0

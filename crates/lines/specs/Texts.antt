@@ -1,8 +1,6 @@
 -- The columns of a line and the text of it. Rests on the numbers of refusals.
 use Rattle.std.specs.Prelude.{ℕ, List, [], ◌∷◌, ◌++◌, Some, None, codes, decimal, Option}
-use Rattle.history.specs.declared.refusal.Refusal.{Refusal}
-use Rattle.history.specs.declared.refusal.Refusal.TheVariants.{TableFull, NumbersSpent, NotPresent, AlreadyCommitted, ItemNotServed, ItemHeld, ClosesCycle, NoRoom}
-use Rattle.history.specs.Refusals.{refusal_number}
+use Rattle.history.specs.Refusals.{refusal_number, holder}
 use Rattle.trace.specs.declared.fault.ReadRefusal.{ReadRefusal}
 use Rattle.trace.specs.declared.fault.ReadRefusal.TheVariants.{Line as FaultyLine, Full}
 use Rattle.trace.specs.Refusals.{cause_of, read_number}
@@ -30,17 +28,6 @@ answer_column (Count n) = Code 0
 answer_column (Retired j) = RetiredMark
 answer_column (Refused r) = Code (refusal_number r)
 answer_column (NotRead r) = Code (read_number r)
-
--- a refusal tells who holds the item, if it is held
-abbrev pub holder : Refusal → Option ℕ
-holder TableFull = None
-holder NumbersSpent = None
-holder NotPresent = None
-holder AlreadyCommitted = None
-holder ItemNotServed = None
-holder (ItemHeld job) = Some job
-holder ClosesCycle = None
-holder NoRoom = None
 
 -- the reader tells what is wrong with a line, if one is at fault
 abbrev pub cause : ReadRefusal → Option ℕ

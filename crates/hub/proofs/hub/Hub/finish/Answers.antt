@@ -14,7 +14,7 @@ loop-item-init g c =
     let hub = c.args.self.now in
     let served : c.min-served.result ≡ min 64 (length (s.values hub.store)) = omega (arith, c.items.ensures, c.min-served.ensures) in (
       refl,
-      put_none s.values s.room s.becomes (held_in hub.core) c.args.job c.min-served.result hub.store
+      put_none s (held_in hub.core) c.args.job c.min-served.result hub.store
           (omega arith) (omega (arith, holdings_below (machine_of s hub) c.args.job c.min-served.result served, c.requires.1)),
     )
 
@@ -27,12 +27,12 @@ loop-item-preserved g c =
     elim c.match-held_by.branch [
       | in-Some w ↦ rw w.self-is (
         c.loop-item.invariant.0,
-        put_one s.values s.room s.becomes (held_in hub.core) c.args.job c.min-served.result hub.store c.loop-item.item c.loop-item.self.store c.loop-item.invariant.1
+        put_one s (held_in hub.core) c.args.job c.min-served.result hub.store c.loop-item.item c.loop-item.self.store c.loop-item.invariant.1
             w.in-Some.value (sym w.in-Some.is ∙ told) (omega arith) w.put.new.self w.put.result w.put.ensures.means w.put.ensures.turns,
       )
       | in_default w ↦ rw w.self-is (
         c.loop-item.invariant.0,
-        put_past s.values s.room s.becomes (held_in hub.core) c.args.job c.min-served.result hub.store c.loop-item.item c.loop-item.self.store c.loop-item.invariant.1
+        put_past s (held_in hub.core) c.args.job c.min-served.result hub.store c.loop-item.item c.loop-item.self.store c.loop-item.invariant.1
             (sym w.in_default.is ∙ told),
       )
     ]
@@ -47,7 +47,7 @@ returns g c =
     let ends = subst (λ core. Ends core c.args.job c.end.result c.end.new.self) c.loop-item.invariant.0 c.end.ensures in
     record {
       commits = commit_ends hub.core c.end.new.self c.args.job (s.values hub.store) _ (s.room hub.store) _
-          c.requires (put_below_all s.values s.room s.becomes (machine_of s hub) c.args.job c.loop-item.item c.min-served.result hub.store left end refl refl c.loop-item.invariant.1)
+          c.requires (put_below_all s (machine_of s hub) c.args.job c.loop-item.item c.min-served.result hub.store left end refl refl c.loop-item.invariant.1)
           c.end.result ends;
-      puts = put_below_turns s.values s.room s.becomes (machine_of s hub) c.args.job c.loop-item.item c.min-served.result hub.store left end refl refl c.loop-item.invariant.1;
+      puts = put_below_turns s (machine_of s hub) c.args.job c.loop-item.item c.min-served.result hub.store left end refl refl c.loop-item.invariant.1;
     }

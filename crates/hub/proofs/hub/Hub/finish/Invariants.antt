@@ -7,4 +7,4 @@ abbrev pub invariant-loop-item : goal.invariant-loop-item
 invariant-loop-item g l =
     let s = g.S.Store in
     (l.self.core ≡ l.initial.self.core)
-    × OnTheWay s.values s.room s.becomes (held_in l.initial.self.core) l.job l.served l.item l.initial.self.store l.self.store
+    × OnTheWay s (held_in l.initial.self.core) l.job l.served l.item l.initial.self.store l.self.store
