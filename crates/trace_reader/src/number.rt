@@ -32,8 +32,7 @@ fn digits_value(digits: &[u8]) -> Option<u32>
 pub fn number(field: &[u8], limit: u32) -> Result<u32, NumberFault>
     ensures { result ≡ number_of limit field.now }
 {
-    let leading_zero = field.len() > 1 && field[0] == b'0';
-    if field.is_empty() || leading_zero || !all_digits(field) {
+    if matches!(field, [] | [b'0', _, ..]) || !all_digits(field) {
         return Err(NumberFault::NotANumber);
     }
     digits_value(field)
