@@ -6,7 +6,8 @@ ghost use Rattle.graph.specs.Orders.{Free, Orders, Picks, key_of, goes_first};
 
 use crate::graph::Graph;
 use crate::list::NodeList;
-use crate::nodes::{NodeSet, below, contains, intersection, is_empty, without};
+use crate::nodes::{NodeSet, contains, intersection, is_empty, without};
+use crate::path::leading;
 
 // The key of a node; one that has none counts as 0.
 fn key(keys: &[u32], node: usize) -> u32
@@ -21,8 +22,7 @@ fn is_free<G: Graph>(graph: &G, left: NodeSet, node: usize) -> bool
     ensures free { result ≡ true → Free (edges_of G.Graph graph.now) (has left) node }
     ensures held { result ≡ false → Free (edges_of G.Graph graph.now) (has left) node → ⊥ }
 {
-    let leading = intersection(graph.sources(node), below(graph.size()));
-    is_empty(intersection(leading, left))
+    is_empty(intersection(leading(graph, node), left))
 }
 
 // Whether the node goes before the best one so far, which is a smaller node.

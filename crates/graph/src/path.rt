@@ -107,6 +107,15 @@ fn search<G: Graph>(graph: &G, start: usize, goal: usize) -> Option<NodeList>
     Some(found.way_to(at))
 }
 
+// The nodes from which an edge leads to this one.
+pub(crate) fn leading<G: Graph>(graph: &G, node: usize) -> NodeSet
+    requires { node < G.Graph.size graph.now }
+    ensures only { (k : ℕ) → has result k ≡ true → edges_of G.Graph graph.now k node }
+    ensures all { (k : ℕ) → edges_of G.Graph graph.now k node → has result k ≡ true }
+{
+    intersection(graph.sources(node), below(graph.size()))
+}
+
 // Whether a path of one edge or more leads from the start to the goal, which is a node of the graph.
 #[tactic(auto, using(crate::proofs::Reach::reaching_all))]
 fn reaches<G: Graph>(graph: &G, start: usize, goal: usize) -> bool
@@ -114,11 +123,10 @@ fn reaches<G: Graph>(graph: &G, start: usize, goal: usize) -> bool
     ensures reached { result ≡ true → Path (edges_of G.Graph graph.now) start goal }
     ensures missed { result ≡ false → Path (edges_of G.Graph graph.now) start goal → ⊥ }
 {
-    let nodes = below(graph.size());
-    let mut seen = intersection(graph.sources(goal), nodes);
+    let mut seen = leading(graph, goal);
     let mut left = seen;
     while let Some(at) = any_node(left) {
-        let fresh = minus(intersection(graph.sources(at), nodes), seen);
+        let fresh = minus(leading(graph, at), seen);
         seen = union(seen, fresh);
         left = union(without(left, at), fresh);
     }

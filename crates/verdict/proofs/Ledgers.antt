@@ -104,7 +104,7 @@ aborted_ended : Fate.aborted ≡ Fate.running → ⊥
 aborted_ended e = cc
 
 -- an act that ends the job at a node
-module _ (H : List Act) (act : Act) (l : Ledger) (k : Keeps H l) (node j : ℕ) (b : node < (count l)) (e : number_at l node ≡ j)
+module _ (H : List Act) (act : Act) (l : Ledger) (k : Keeps H l) (node j : ℕ) (b : node < count l) (e : number_at l node ≡ j)
     (runs : fate j H ≡ Fate.running) (o : opened (act ∷ []) ≡ []) (a : accesses (act ∷ []) ≡ [])
     (g : Fate) (ends : (i : ℕ) (f : Fate) → after act i f ≡ cond (eqb j i) g f) (g-opened : g ≡ Fate.unopened → ⊥) (g-ended : g ≡ Fate.running → ⊥) where
   fate_ended : fate j (H ++ act ∷ []) ≡ g
@@ -147,7 +147,7 @@ module _ (H : List Act) (act : Act) (l : Ledger) (k : Keeps H l) (node j : ℕ) 
 Counts : Fate → Type 0
 Counts f = T (not_aborted f)
 
-pub keeps_commit : (H : List Act) (l m : Ledger) (node j : ℕ) → Keeps H l → node < (count l) → number_at l node ≡ j
+pub keeps_commit : (H : List Act) (l m : Ledger) (node j : ℕ) → Keeps H l → node < count l → number_at l node ≡ j
     → fate j H ≡ Fate.running → Ends l node m → Keeps (H ++ Commit j ∷ []) m
 unfolding Counts
 keeps_commit H l m node j k b e runs d =
@@ -161,7 +161,7 @@ keeps_commit H l m node j k b e runs d =
     subst (Keeps H') (sym d.rest)
     (keeps_ended H (Commit j) l k node j b e runs refl refl Fate.committed (λ i f. refl) committed_opened committed_ended m.running l.kept d.running keep)
 
-pub keeps_abort : (H : List Act) (l m : Ledger) (node j : ℕ) → Keeps H l → node < (count l) → number_at l node ≡ j
+pub keeps_abort : (H : List Act) (l m : Ledger) (node j : ℕ) → Keeps H l → node < count l → number_at l node ≡ j
     → fate j H ≡ Fate.running → Drops l node m → Keeps (H ++ Abort j ∷ []) m
 unfolding Counts
 keeps_abort H l m node j k b e runs d =
