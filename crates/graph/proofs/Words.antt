@@ -1,10 +1,11 @@
 -- The bits of words: what a union, an added and a removed node do to each one.
-use Rattle.std.proofs.Common.{◌≡◌, ℕ, zero, suc, ◌+◌, ◌-◌, ◌*◌, ◌/◌, ◌%◌, ◌^◌, ◌<◌, ◌≤◌, min, max, Bool, true, false, not, ◌&&◌, ◌||◌, eqb, ltb, ◌⊎◌, sym, refl, ap, ◌∙◌, inl, inr, pow-suc, one-add, arith, pow_pos}
+use Rattle.std.proofs.Common.{◌≡◌, ℕ, zero, suc, ◌+◌, ◌-◌, ◌*◌, ◌/◌, ◌%◌, ◌^◌, ◌<◌, ◌≤◌, min, max, true, false, not, ◌&&◌, ◌||◌, eqb, ltb, ◌⊎◌, sym, refl, ap, ◌∙◌, inl, inr, pow-suc, one-add, arith, pow_pos, Decides}
 use lib.Bits.{bit_and, bit_or, and_step, or_step, and_shr, or_shr, and_mask, and_lt, or_lt, or_disjoint}
 use lib.Count.{count_trailing_zeros}
 use lib.Dec.{eqb-suc-zero, eqb-zero-suc, eqb-suc-suc}
+use Rattle.std.proofs.Math.Bool.{and-true}
 use Rattle.std.proofs.lemmas.Nat.{pow_below, shr-shr, one_shl}
-use Rattle.std.proofs.lemmas.Bool.{le-ltb, lt-ltb, cases_order, cases_lt, cases_eq, ne_eqb, true≢false, false≢true}
+use Rattle.std.proofs.lemmas.Bool.{le-ltb, lt-ltb, cases_order, cases_lt, cases_eq, eq-eqb, eqb-true, ne_eqb, true≢false, false≢true}
 use Rattle.graph.specs.Nodes.{has}
 
 -- a digit is 0 or 1
@@ -158,20 +159,19 @@ bit_sum w a b c s t u h n =
 pub bit_empty : (w set : ℕ) → set < 2 ^ w → ((k : ℕ) → has set k ≡ false) → set ≡ 0
 bit_empty w set s h = bits_tell w set 0 s (pow_pos w) (λ k. h k ∙ sym (bit_none k))
 
-pub and_true : (b : Bool) → (b && true) ≡ b
-and_true true = refl
-and_true false = refl
-
 -- to take a node past the width out of a set changes nothing
 pub past_kept : (w set n : ℕ) → set < 2 ^ w → w ≤ n → (k : ℕ) → has set k ≡ (has set k && not (eqb k n))
 past_kept w set n s l k = elim (cases_eq k n) [
   | inl e ↦ rw (e, bit_past w set n s l)
-  | inr d ↦ rw (ne_eqb k n d, and_true (has set k))
+  | inr d ↦ rw (ne_eqb k n d, and-true (has set k))
 ]
 
 -- the same of words of 64 bits, as the code of `nodes` has them
 pub word_minus : (a b k : ℕ) → a < 2 ^ 64 → b < 2 ^ 64 → has (bit_and a (2 ^ 64 - 1 - b)) k ≡ (has a k && not (has b k))
 word_minus a b k = bit_minus 64 a b k
+
+pub word_empty : (set : ℕ) → set < 2 ^ 64 → Decides (eqb set 0) ((k : ℕ) → has set k ≡ false)
+word_empty set s = (λ e k. rw (eqb-true set 0 e) (bit_none k), λ none. eq-eqb set 0 (bit_empty 64 set s none))
 
 pub word_with : (set n k : ℕ) → n < 64 → has (bit_or set ((1 * 2 ^ n) % 2 ^ 64)) k ≡ (has set k || (ltb n 64 && eqb k n))
 word_with set n k l = rw (lt-ltb n 64 l) (bit_set 64 set n k l)

@@ -1,5 +1,5 @@
 -- Orders of the nodes of a set: each time the one with the smallest key among those that no node left leads into.
--- Rests on Paths, Edges and Lists.
+-- Rests on Paths, Edges and Nodes.
 use Rattle.std.specs.Prelude.{◌≡◌, ℕ, ◌<◌, ◌≤◌, Bool, true, not, ◌&&◌, T, ◌⊎◌, List, [], ◌∷◌, Some, None, Option, ◌==◌, nat_lt, slice_index}
 use Rattle.graph.specs.Edges.{Within}
 use Rattle.graph.specs.Nodes.{has}

@@ -1,4 +1,4 @@
-// A list of at most 64 nodes.
 use arrayvec::ArrayVec;
 
+// A list of at most 64 nodes.
 pub type NodeList = ArrayVec<usize, 64>;
