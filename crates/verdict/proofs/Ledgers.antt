@@ -15,7 +15,7 @@ use Rattle.history.proofs.Records.{fate_more, accesses_join, Occurs, leads_occur
 use Rattle.verdict.specs.declared.ledger.Ledger.{Ledger}
 use Rattle.verdict.specs.declared.refusal.JudgeRefusal.{JudgeRefusal}
 use Rattle.verdict.specs.declared.refusal.JudgeRefusal.TheVariants.{OutOfTurn}
-use Rattle.verdict.specs.Turns.{opened, InTurn}
+use Rattle.verdict.specs.Turns.{opened, InTurn, HasRoom}
 use Rattle.verdict.specs.Ledgers.{number_at, count, marked, Finds, FindsOpen, Opens, Ends, Drops, Marks, Used, UsersOf, users_at, Keeps, Takes}
 use Rattle.verdict.proofs.Marks.{Apart, distinct_apart, marks_miss, marks_drop}
 
@@ -85,11 +85,10 @@ keeps_still H act l k o a still =
     (marks_iff l.numbers.items _ _ l.running (λ i e. same i ∙ e) (λ i e. sym (same i) ∙ e) k.running)
     (marks_iff l.numbers.items _ _ l.kept (λ i e. subst (λ f. T (not_aborted f)) (sym (same i)) e) (λ i e. subst (λ f. T (not_aborted f)) (same i) e) k.kept)
 
-pub keeps_peek : (H : List Act) (x v : ℕ) (l : Ledger) → Keeps H l → Keeps (H ++ Peek x v ∷ []) l
-keeps_peek H x v l k = keeps_still H (Peek x v) l k refl refl (λ i f. refl)
-
-pub keeps_retire : (H : List Act) (l : Ledger) → Keeps H l → Keeps (H ++ Retire ∷ []) l
-keeps_retire H l k = keeps_still H Retire l k refl refl (λ i f. refl)
+pub takes_still : (H : List Act) (act : Act) (l : Ledger) → Keeps H l → ((x : ℕ) × (v : ℕ) × act ≡ Peek x v) ⊎ (act ≡ Retire)
+    → InTurn H act × HasRoom H act × Keeps (H ++ act ∷ []) l
+takes_still H act l k (inl p) = rw p.2 (tt, tt, keeps_still H (Peek p.0 p.1) l k refl refl (λ i f. refl))
+takes_still H act l k (inr e) = rw e (tt, tt, keeps_still H Retire l k refl refl (λ i f. refl))
 
 committed_opened : Fate.committed ≡ Fate.unopened → ⊥
 committed_opened e = cc

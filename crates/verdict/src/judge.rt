@@ -1,5 +1,5 @@
 // The verdict on a list of steps, with the order or the cycle that shows it.
-ghost use Rattle.std.specs.Prelude.{◌≡◌, ℕ, ◌<◌, ◌≤◌, true, false, List, length, take, drop, Some, None, slice_index};
+ghost use Rattle.std.specs.Prelude.{◌≡◌, ◌↔◌, ℕ, ◌<◌, ◌≤◌, true, List, length, take, drop, Some, None, slice_index, IsTrue};
 ghost use Rattle.graph.specs.Nodes.{has};
 ghost use Rattle.graph.specs.Paths.{◌∈◌};
 ghost use Rattle.history.specs.Acts.{not_aborted};
@@ -18,7 +18,8 @@ use graph::nodes::{NodeSet, is_empty, without};
 use graph::order::topological_order;
 use trace::act::Step;
 
-// What the judge answers: how many numbers it put into the list.
+// What the judge answers: how many numbers it put into the list. An enum of its own: each variant says what the list
+// then has.
 #[derive(Clone, Copy, PartialEq, Eq, Debug)]
 pub enum Verdict {
     // The jobs could have run one after another: the list has an order of them.
@@ -34,6 +35,7 @@ fn put(ledger: &Ledger, chosen: &NodeList, numbers: &mut [u32])
     ensures front { take (length chosen.now.items) numbers.new ≡ numbered ledger.now chosen.now.items }
     ensures rest { drop (length chosen.now.items) numbers.new ≡ drop (length chosen.now.items) numbers.old }
 {
+    // By index: over `iter_mut` and `zip` the invariant would speak of the places lent and of what they become.
     for (at, node) in chosen.iter().enumerate() {
         numbers[at] = ledger.numbers[*node];
     }
@@ -42,8 +44,7 @@ fn put(ledger: &Ledger, chosen: &NodeList, numbers: &mut [u32])
 // Whether every node of the set stands in the list.
 #[tactic(auto, using(crate::proofs::Missing::missing_more, crate::proofs::Missing::missing_none, crate::proofs::Missing::all_there))]
 fn has_all(list: &NodeList, set: NodeSet) -> bool
-    ensures all { result ≡ true → (n : ℕ) → has set n ≡ true → n ∈ list.now.items }
-    ensures some { result ≡ false → ((n : ℕ) → has set n ≡ true → n ∈ list.now.items) → ⊥ }
+    ensures { IsTrue result ↔ ((n : ℕ) → has set n ≡ true → n ∈ list.now.items) }
 {
     // A loop: each node is taken out of the set, and what is left is asked once.
     let mut missing = set;
@@ -78,27 +79,6 @@ fn order_of(ledger: &Ledger) -> NodeList
     topological_order(&ledger.into, &ledger.numbers, ledger.kept)
 }
 
-// No: the list gets the numbers of the cycle.
-fn show_cycle(ledger: &Ledger, cycle: &NodeList, numbers: &mut [u32]) -> Verdict
-    requires cycle { NodeCycle ledger.now (Some cycle.now) }
-    requires ready { Ready ledger.now (length numbers.old) }
-    ensures { (H : List Act) → Keeps H ledger.now → Decides not_aborted H numbers.old result numbers.new }
-{
-    put(ledger, cycle, numbers);
-    Verdict::No(cycle.len())
-}
-
-// Yes: the list gets the numbers of the order.
-fn show_order(ledger: &Ledger, order: &NodeList, numbers: &mut [u32]) -> Verdict
-    requires order { NodeOrder ledger.now order.now }
-    requires none { NodeCycle ledger.now None }
-    requires ready { Ready ledger.now (length numbers.old) }
-    ensures { (H : List Act) → Keeps H ledger.now → Decides not_aborted H numbers.old result numbers.new }
-{
-    put(ledger, order, numbers);
-    Verdict::Yes(order.len())
-}
-
 // The verdict on the acts of the ledger.
 fn decide(ledger: &Ledger, numbers: &mut [u32]) -> Verdict
     requires { Ready ledger.now (length numbers.old) }
@@ -106,8 +86,16 @@ fn decide(ledger: &Ledger, numbers: &mut [u32]) -> Verdict
 {
     let order = order_of(ledger);
     match cycle_beside(ledger, &order) {
-        Some(cycle) => show_cycle(ledger, &cycle, numbers),
-        None => show_order(ledger, &order, numbers),
+        // No: the list gets the numbers of the cycle.
+        Some(cycle) => {
+            put(ledger, &cycle, numbers);
+            Verdict::No(cycle.len())
+        }
+        // Yes: the list gets the numbers of the order.
+        None => {
+            put(ledger, &order, numbers);
+            Verdict::Yes(order.len())
+        }
     }
 }
 

@@ -99,7 +99,8 @@ fn open(ledger: &mut Ledger, index: usize, job: u32) -> Result<(), JudgeRefusal>
     Ok(())
 }
 
-// Takes the commit of a job, at the index.
+// Takes the commit of a job, at the index. It and the next differ in one call: one function with that call as a closure
+// would need more clauses than the lines that they share.
 fn commit(ledger: &mut Ledger, index: usize, job: u32) -> Result<(), JudgeRefusal>
     ensures { (H : List Act) → Keeps H ledger.old → Takes H (Commit job) index result ledger.new }
 {
@@ -133,8 +134,7 @@ fn follow(ledger: &mut Ledger, before: &[Step], act: &Act) -> Result<(), JudgeRe
         Act::Write { job, item, .. } => access(ledger, before, Access::Write, *job, *item),
         Act::Commit { job } => commit(ledger, index, *job),
         Act::Abort { job } => abort(ledger, index, *job),
-        Act::Peek { .. } => Ok(()),
-        Act::Retire => Ok(()),
+        Act::Peek { .. } | Act::Retire => Ok(()),
     }
 }
 
