@@ -38,6 +38,7 @@ fn read_into(mut steps: Vec<Step>, bytes: &[u8]) -> Result<Vec<Step>, ReadRefusa
 pub fn read_steps(heap: Global, bytes: &[u8]) -> Result<Result<Vec<Step>, ReadRefusal>, AllocError>
     ensures { IfOk result (λ trace. IsTrace bytes.now trace) }
 {
+    // Place for all of them, cut to the count later: the reader fills a list that is lent to it.
     let unread = Step {
         line: 0,
         act: Act::Retire,

@@ -12,7 +12,7 @@ use verdict::judge::{Verdict, judge};
 // How many numbers the list takes.
 const PLACES: usize = 64;
 
-// How many numbers a verdict comes with.
+// How many numbers a verdict comes with. By a match: each answer has a name of its own and its own count.
 fn count(verdict: Verdict) -> usize
     ensures { result ≡ verdict_count verdict }
 {

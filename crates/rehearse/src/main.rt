@@ -19,7 +19,8 @@ fn answer(heap: Global, bytes: &[u8]) -> Result<String, AllocError>
     write_sheet(heap, "line,answer,detail", &lines)
 }
 
-// One byte more than the longest input tells that an input is too long.
+// One byte more than the longest input tells that an input is too long. Each program has its own `main`: a
+// shared one would be a public function of which no contract can speak.
 fn main(rt: HostRuntime) -> io::Result<()> {
     let bytes = read_front(rt.alloc(), rt.stdin(), LONGEST_INPUT + 1)?;
     let text = answer(rt.alloc(), &bytes)?;

@@ -9,7 +9,7 @@ use Rattle.std.proofs.lemmas.List.FromFn.{length-map-range_with_len, get_or-map-
 use Rattle.std.specs.List.{prefix_len, find}
 use Rattle.std.specs.Option.{option_map_or}
 use Rattle.store.specs.Stores.{at}
-use Rattle.store.specs.Records.{whole, records, byte_of, mark_of, item_of, value_of, value_in, unmarked_from, used_in, UsedFront, held, Latest, contents, written, with_record}
+use Rattle.store.specs.Records.{whole, records, byte_of, mark_of, item_of, value_of, unmarked_from, used_in, UsedFront, held, Latest, contents, written, with_record}
 
 -- a byte below the record that is appended stays
 pub below_record : (bytes : List ℕ) (n item value : ℕ) → n < whole bytes → (k : ℕ) → k < n * 8 → get_or (with_record bytes n item value) k 0 ≡ get_or bytes k 0
@@ -141,10 +141,10 @@ pub count_marked : (bytes : List ℕ) → prefix_len (λ r. get_or r 0 0 == 165)
 count_marked bytes = omega (arith, marked_records bytes 0 (whole bytes))
 
 -- what an item holds by the first n records, looked for from the back
-pub last_record : (bytes : List ℕ) (item n : ℕ) → held bytes item n ≡ option_map_or value_in (find (λ r. get_or r 1 0 == item) (reverse (records bytes n))) 0
+pub last_record : (bytes : List ℕ) (item n : ℕ) → held bytes item n ≡ option_map_or (λ r. value_of r 0) (find (λ r. get_or r 1 0 == item) (reverse (records bytes n))) 0
 last_record bytes item zero = refl
 last_record bytes item (suc n) =
     let byte = byte_in bytes n in
     let back : reverse (records bytes (suc n)) ≡ take 8 (drop (n * 8) bytes) ∷ reverse (records bytes n) = ap (λ rs. reverse rs) (records_more bytes n) ∙ reverse-append (records bytes n) (take 8 (drop (n * 8) bytes) ∷ []) in
-    rw (back, byte 1 (omega arith)) (cond_both (item_of bytes n == item) (value_of bytes n) (held bytes item n) (λ v. v ≡ option_map_or value_in (cond (item_of bytes n == item) (Some (take 8 (drop (n * 8) bytes))) (find (λ r. get_or r 1 0 == item) (reverse (records bytes n)))) 0) (λ e.
+    rw (back, byte 1 (omega arith)) (cond_both (item_of bytes n == item) (value_of bytes n) (held bytes item n) (λ v. v ≡ option_map_or (λ r. value_of r 0) (cond (item_of bytes n == item) (Some (take 8 (drop (n * 8) bytes))) (find (λ r. get_or r 1 0 == item) (reverse (records bytes n)))) 0) (λ e.
     rw (e, byte 4 (omega arith), byte 5 (omega arith), byte 6 (omega arith), byte 7 (omega arith)) refl) (λ e. rw e (last_record bytes item n)))

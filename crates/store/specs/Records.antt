@@ -24,15 +24,11 @@ abbrev pub value_of : List ℕ → ℕ → ℕ
 value_of bytes n =
     byte_of bytes n 4 * 16777216 + byte_of bytes n 5 * 65536 + byte_of bytes n 6 * 256 + byte_of bytes n 7
 
--- the first n records, each as its bytes
+-- the first n records, from the front: the list cut into its records, each the bytes of one, which are a
+-- list of bytes with a record 0
 abbrev pub records : List ℕ → ℕ → List (List ℕ)
 records bytes zero = []
 records bytes (suc n) = take 8 bytes ∷ records (drop 8 bytes) n
-
--- the value in the bytes of a record, high byte first
-abbrev pub value_in : List ℕ → ℕ
-value_in bytes =
-    slice_index bytes 4 * 16777216 + slice_index bytes 5 * 65536 + slice_index bytes 6 * 256 + slice_index bytes 7
 
 -- the number of the first record, from record n on, whose mark is not 0xA5, or n + k if
 -- the k records there all have it

@@ -30,7 +30,8 @@ impl<'a> LogStore<'a> {
         LogStore::with_used(bytes, items, used)
     }
 
-    // The store of these records, of which so many are used.
+    // The store of these records, of which so many are used. Apart from `new`, which is thin and has no proof
+    // file: a wrong step there is refused because a clause fails, not because a name is gone.
     fn with_used(bytes: &'a mut [u8], items: u8, used: usize) -> LogStore<'a>
         requires { used ≡ used_in bytes.old }
         ensures means { (log_values result ≡ contents bytes.old items (used_in bytes.old)) × (log_room result ≡ whole bytes.old - used_in bytes.old) }
@@ -41,7 +42,8 @@ impl<'a> LogStore<'a> {
         LogStore { bytes, items, used }
     }
 
-    // Appends a record of the value for the item, unless there is no such item or no room.
+    // Appends a record of the value for the item, unless there is no such item or no room. Apart from `put`,
+    // as the function above is apart from `new`.
     fn append(&mut self, item: u32, value: u32) -> Result<(), PutRefused>
         ensures means { Puts (log_values self.old) (log_room self.old) item value result (log_values self.new) (log_room self.new) }
         ensures turns { Turns log_becomes self.old item value result self.new }

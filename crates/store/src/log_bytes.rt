@@ -1,6 +1,6 @@
-ghost use Rattle.std.specs.Prelude.{◌≡◌, ℕ, ◌-◌, ◌/◌, ◌<◌, ◌≤◌, min, List, length, MatchOption, ◌==◌, slice_index};
+ghost use Rattle.std.specs.Prelude.{◌≡◌, ℕ, ◌-◌, ◌/◌, ◌<◌, ◌≤◌, min, List, length, MatchOption, ◌==◌};
 ghost use Rattle.store.specs.Stores.{at};
-ghost use Rattle.store.specs.Records.{whole, records, held, value_in, contents, used_in, Latest, written, with_record};
+ghost use Rattle.store.specs.Records.{whole, mark_of, value_of, records, held, contents, used_in, Latest, written, with_record};
 ghost use Rattle.store.specs.Logs.{NextFree};
 
 use super::store::PutRefused;
@@ -28,7 +28,7 @@ fn records(bytes: &[u8]) -> &[[u8; 8]]
 
 // Whether a record has the mark of a used one.
 fn is_marked(bytes: &[u8; 8]) -> bool
-    ensures { result ≡ (slice_index bytes.now 0 == 165) }
+    ensures { result ≡ (mark_of bytes.now 0 == 165) }
 {
     bytes[0] == MARK
 }
@@ -45,7 +45,7 @@ pub(crate) fn count_used(bytes: &[u8]) -> usize
 
 // The value in a record.
 fn read_value(bytes: &[u8; 8]) -> u32
-    ensures { result ≡ value_in bytes.now }
+    ensures { result ≡ value_of bytes.now 0 }
 {
     let [_, _, _, _, a, b, c, d] = *bytes;
     u32::from_be_bytes([a, b, c, d])

@@ -48,7 +48,7 @@ impl Act {
         }
     }
 
-    // The item that it names.
+    // The item that it names. By a match of its own, as the value below: each names its own field.
     pub fn item(&self) -> Option<u32>
         ensures { result ≡ item_of self.now }
     {

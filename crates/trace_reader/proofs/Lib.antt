@@ -1,5 +1,4 @@
 pub mod Cutting
-pub mod Figures
 pub mod Fields
 pub mod Progress
 pub mod Laws

@@ -81,8 +81,6 @@ struct Fields<'a> {
 }
 
 impl Fields<'_> {
-    // Two shapes serve five kinds. The other two kinds are read where they are named.
-
     // The job, where nothing else is filled.
     fn job_alone(&self) -> Result<u32, FieldFault>
         ensures { result ≡ job_alone self.now.job.now self.now.item.now self.now.value.now }
@@ -103,7 +101,7 @@ impl Fields<'_> {
         Ok((job, item, value))
     }
 
-    // The act of a kind.
+    // The act of a kind. Two shapes serve five kinds. The other two kinds are read where they are named.
     fn act_of(&self, kind: Kind) -> Result<Act, FieldFault>
         ensures { result ≡ act_of kind self.now.job.now self.now.item.now self.now.value.now }
     {
@@ -152,12 +150,17 @@ fn read_fields(line: &[u8]) -> Result<Act, FieldFault>
 fn read_line(line: &[u8], place: LinePlace) -> Result<Act, LineFault>
     ensures { result ≡ in_place place (act_on line.now) }
 {
-    let what = match count_fields(line) {
-        4 => return Ok(read_fields(line).map_err(|fault| (place, fault))?),
-        0..4 => LineCause::FewFields,
-        _ => LineCause::ManyFields,
-    };
-    Err(LineFault { place, what })
+    match count_fields(line) {
+        4 => Ok(read_fields(line).map_err(|fault| (place, fault))?),
+        0..4 => Err(LineFault {
+            place,
+            what: LineCause::FewFields,
+        }),
+        _ => Err(LineFault {
+            place,
+            what: LineCause::ManyFields,
+        }),
+    }
 }
 
 // The act of the first line of the bytes, and its length with its line end.

@@ -1,10 +1,11 @@
-ghost use Rattle.std.specs.Prelude.{◌≡◌, ◌^◌, ◌<◌, IsTrue, SomeIff};
+ghost use Rattle.std.specs.Prelude.{◌≡◌, ◌^◌, ◌<◌, length, IsTrue, SomeIff};
 ghost use Rattle.std.specs.Str.Parse.{digits_value};
 ghost use Rattle.std.specs.Char.{is_ascii_digit};
 ghost use Rattle.std.specs.List.{list_all};
 ghost use Rattle.std.specs.Str.{all_ascii_digits};
 ghost use Rattle.trace.specs.Numbers.{number_of};
 
+use std::str;
 use trace::fault::NumberFault;
 
 // Whether each byte is a digit.
@@ -16,16 +17,11 @@ fn all_digits(bytes: &[u8]) -> bool
 
 // The number that digits write, where it has 32 bits.
 fn digits_value(digits: &[u8]) -> Option<u32>
-    requires { IsTrue (all_ascii_digits digits.now) }
+    requires some { 0 < length digits.now }
+    requires all { IsTrue (all_ascii_digits digits.now) }
     ensures { SomeIff result (digits_value 10 digits.now < 2 ^ 32) (digits_value 10 digits.now) }
 {
-    let mut total: u32 = 0;
-    for digit in digits {
-        total = total
-            .checked_mul(10)?
-            .checked_add(u32::from(*digit - b'0'))?;
-    }
-    Some(total)
+    str::from_utf8(digits).ok()?.parse().ok()
 }
 
 // The number that a field holds: one digit or more, with no leading zero, up to the limit.

@@ -66,6 +66,7 @@ fn line(act: &Act) -> ArrayVec<u8, LONGEST_LINE>
 fn check_item(item: Option<u32>) -> Result<(), WriteRefusal>
     ensures { result ≡ item_checked item (Ok tt) }
 {
+    // By a match with a guard: it reads as the rule does.
     match item {
         Some(item) if item > Column::Item.limit() => Err(WriteRefusal::ItemAboveLimit { item }),
         _ => Ok(()),

@@ -4,7 +4,7 @@ use Rattle.std.specs.Option.{option_map, option_map_or}
 use Rattle.std.proofs.lemmas.Iterator.Adapters.{YieldsList-from_rev_slice}
 use Rattle.std.specs.Slice.Iter.{iter_rest}
 use Rattle.std.proofs.lemmas.Iterator.Search.{find_from_yields_List}
-use Rattle.store.specs.Records.{records, value_in}
+use Rattle.store.specs.Records.{records, value_of}
 use Rattle.store.proofs.Records.{first_records, last_record}
 use Rattle.store.proofs.log_bytes.last_value.Goals as goal
 
@@ -12,7 +12,7 @@ length_records : (bytes : List ℕ) (n : ℕ) → length (records bytes n) ≡ n
 length_records bytes zero = refl
 length_records bytes (suc n) = ap (λ k. suc k) (length_records (drop 8 bytes) n)
 
-read_found : {T : Type 0} (now : T → List ℕ) (r : Option T) (found : Option (List ℕ)) (value : ℕ) → option_map now r ≡ found → MatchOption r (value ≡ 0) (λ x. value ≡ value_in (now x)) → value ≡ option_map_or value_in found 0
+read_found : {T : Type 0} (now : T → List ℕ) (r : Option T) (found : Option (List ℕ)) (value : ℕ) → option_map now r ≡ found → MatchOption r (value ≡ 0) (λ x. value ≡ value_of (now x) 0) → value ≡ option_map_or (λ r. value_of r 0) found 0
 read_found now None found value e is = rw (← e) is
 read_found now (Some x) found value e is = rw (← e) is
 
