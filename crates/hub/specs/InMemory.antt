@@ -6,7 +6,8 @@ use Rattle.store.specs.Memories.{memory_values, memory_room}
 use Rattle.store.specs.declared.memory.MemoryStore.{MemoryStore}
 use Rattle.hub.specs.declared.hub.Hub.{Hub}
 
--- the state of the machine for such a hub
+-- the state of the machine for such a hub: `machine_of`, written out, since a clause can't name the bound
+-- there of a store that has a lifetime
 abbrev pub in_memory : Hub MemoryStore → State
 in_memory hub = machine hub.core (memory_values hub.store) (memory_room hub.store)
 
