@@ -36,7 +36,7 @@ impl Core {
     }
 
     // Aborts a job.
-    // Beside `end`: the two differ in the one call that they are made of.
+    // `end` differs in the call in the middle: to share the rest would take a closure, and be no plainer.
     pub fn abort(&mut self, job: u32) -> Result<(), Refusal>
         ensures { (values : List ℕ) (room : ℕ) → Aborts (machine self.old values room) job result (machine self.new values room) }
     {
