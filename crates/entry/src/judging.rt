@@ -62,6 +62,7 @@ pub extern "C" fn sathkeif_judge(requests: &[Request], numbers: &mut [u32]) -> R
         line: 0,
         act: Act::Retire,
     };
+    // No ArrayVec: a list of that kind is filled with defaults first, and an act has none.
     let mut steps = [unread; MOST_STEPS];
     let count = decode(requests, &mut steps);
     if count < requests.len() {

@@ -9,6 +9,9 @@ use history::refusal::Refusal;
 use hub::Hub;
 use store::MemoryStore;
 
+// How many places a retire is lent.
+const PLACES: usize = 32;
+
 // The reply to what the hub answers: with a refusal goes the number of the job that holds the item, or 0.
 impl From<Result<Answer, Refusal>> for Reply {
     ghost from_gives = { λ answer reply. reply ≡ reply_of answer };
@@ -23,10 +26,7 @@ impl From<Result<Answer, Refusal>> for Reply {
             Ok(Answer::Count(number)) => Reply { code: 0, number },
             Err(refusal) => Reply {
                 code: refusal.number(),
-                number: match refusal {
-                    Refusal::ItemHeld { holder } => holder as usize,
-                    _ => 0,
-                },
+                number: refusal.holder().unwrap_or(0) as usize,
             },
         }
     }
@@ -38,7 +38,7 @@ fn play(hub: &mut Hub<MemoryStore>, requests: &[Request], replies: &mut [Reply])
     requires { length requests.now ≤ length replies.old }
     ensures { Plays (in_memory hub.old) requests.now replies.old result (in_memory hub.new) replies.new }
 {
-    let mut list = [0; 32];
+    let mut list = [0; PLACES];
     for (at, request) in requests.iter().enumerate() {
         let Some(act) = request.act() else {
             return at;

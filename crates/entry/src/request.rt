@@ -16,6 +16,7 @@ pub struct Request {
 }
 
 // An answer as two numbers: 0 or the number of a refusal, and a number that goes with it.
+// The code is a number and no Result, since callers in C take it.
 #[repr(C)]
 #[derive(Clone, Copy)]
 pub struct Reply {

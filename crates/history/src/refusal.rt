@@ -1,5 +1,5 @@
 ghost use Rattle.std.specs.Prelude.{◌≡◌};
-ghost use Rattle.history.specs.Refusals.{refusal_number};
+ghost use Rattle.history.specs.Refusals.{refusal_number, holder};
 
 // Why a hub says no to a call.
 #[derive(Clone, Copy, PartialEq, Eq, Debug)]
@@ -36,6 +36,16 @@ impl Refusal {
             Refusal::ItemHeld { holder: _ } => 6,
             Refusal::ClosesCycle => 7,
             Refusal::NoRoom => 8,
+        }
+    }
+
+    // The job that holds the item, if that is why.
+    pub fn holder(&self) -> Option<u32>
+        ensures { result ≡ holder self.now }
+    {
+        match self {
+            Refusal::ItemHeld { holder } => Some(*holder),
+            _ => None,
         }
     }
 }

@@ -6,7 +6,8 @@ use Rattle.store.specs.Memories.{memory_values, memory_room}
 use Rattle.store.specs.declared.memory.MemoryStore.{MemoryStore}
 use Rattle.hub.specs.declared.hub.Hub.{Hub}
 
--- the state of the machine for such a hub
+-- the state of the machine for such a hub: `machine_of` of this store, written out, since a clause that names
+-- the store's bound there would need a lifetime, and has none to write
 abbrev pub in_memory : Hub MemoryStore → State
 in_memory hub = machine hub.core (memory_values hub.store) (memory_room hub.store)
 

@@ -1,4 +1,5 @@
--- What a commit does to the store: it has got what a job held, or is left alone. Rests on the machine.
+-- What each act does to the store: a commit puts what a job held, or leaves it alone, and no other act touches
+-- it. Rests on the machine.
 use Rattle.std.specs.Prelude.{◌≡◌, ℕ, List, [], ◌∷◌, map, Ok, Err, Option, Result}
 use Rattle.trace.specs.declared.act.Act.{Act}
 use Rattle.trace.specs.declared.act.Act.TheVariants.{Open, Read, Write, Commit, Abort, Peek, Retire}

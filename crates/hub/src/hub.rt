@@ -10,11 +10,12 @@ ghost use Rattle.hub.specs.Putting.{LeavesIfRefused, PutsIfGranted, PutsFor, Put
 
 use history::answer::Answer;
 use history::refusal::Refusal;
-use scheduler::hub_core::Core;
+use scheduler::hub_core::{Core, MOST_SERVED};
 use store::Store;
 use trace::act::Act;
 
 // A scheduler with no jobs. Every run that begins with it is serializable, whatever the store is.
+// By itself: so the main theorem is shown of a scheduler alone, with no store in it.
 fn idle(first: u32) -> Core
     ensures made { (values : List ℕ) (room : ℕ) → machine result values room ≡ made 32 first values room }
     ensures serializable { (values : List ℕ) (room : ℕ) → EveryRunFrom (machine result values room) values }
@@ -111,7 +112,8 @@ impl<S: Store> Hub<S> {
         ensures commits { Committed (machine_of S.Store self.old) job (machine_of S.Store self.new) }
         ensures puts { PutInTurn S.Store.becomes self.old.store (held_pairs (machine_of S.Store self.old) job) self.new.store }
     {
-        let served = self.store.items().min(64);
+        let served = self.store.items().min(MOST_SERVED);
+        // By number: the item itself is put; nothing is indexed.
         for item in 0..served {
             if let Some(value) = self.core.held_by(job, item) {
                 let _ = self.store.put(item as u32, value);
@@ -141,7 +143,7 @@ impl<S: Store> Hub<S> {
     pub fn peek(&self, item: u32) -> Result<u32, Refusal>
         ensures { Peeks (machine_of S.Store self.now) item result (machine_of S.Store self.now) }
     {
-        if item >= 64 {
+        if item as usize >= MOST_SERVED {
             return Err(Refusal::ItemNotServed);
         }
         self.store.get(item).ok_or(Refusal::ItemNotServed)

@@ -62,6 +62,7 @@ pub fn not_read(refusal: ReadRefusal) -> Line
 }
 
 // The second column: 0 or the number of a refusal, or the mark of a retired job.
+// No Option: a retired job has a mark of its own there, not nothing.
 #[derive(Clone, Copy, PartialEq, Eq, Debug)]
 pub enum AnswerColumn {
     Code(u32),
@@ -87,7 +88,7 @@ impl Outcome {
         }
     }
 
-    // The third column of the line.
+    // The third column of the line. One arm is one row of the table of lines.
     pub fn detail_column(&self) -> DetailColumn
         ensures { result ≡ detail_column self.now }
     {
@@ -96,8 +97,7 @@ impl Outcome {
             Outcome::Done => None,
             Outcome::Count(n) => Some(*n),
             Outcome::Retired(job) => Some(*job as usize),
-            Outcome::Refused(Refusal::ItemHeld { holder }) => Some(*holder as usize),
-            Outcome::Refused(_) => None,
+            Outcome::Refused(refusal) => refusal.holder().map(|holder| holder as usize),
             Outcome::NotRead(ReadRefusal::Line(fault)) => Some(fault.cause() as usize),
             Outcome::NotRead(ReadRefusal::Full { .. }) => None,
         };
@@ -122,6 +122,7 @@ impl fmt::Display for DetailColumn {
     fn fmt<W: fmt::Write>(&self, f: &mut fmt::Formatter<W>) -> fmt::Result {
         match self.number {
             Some(n) => write!(f, "{n}"),
+            // Nothing is written; `map_or` with a closure that writes is no plainer.
             None => Ok(()),
         }
     }

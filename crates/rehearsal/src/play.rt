@@ -55,10 +55,6 @@ pub fn rehearse_input(heap: Global, bytes: &[u8]) -> Result<Vec<Line>, AllocErro
 {
     match read_steps(heap, bytes)? {
         Ok(steps) => rehearse(heap, &steps),
-        Err(refusal) => {
-            let mut lines = Vec::new(heap);
-            lines.push(not_read(refusal))?;
-            Ok(lines)
-        }
+        Err(refusal) => Ok(vec![in heap; not_read(refusal)]?),
     }
 }

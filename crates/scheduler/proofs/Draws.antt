@@ -13,7 +13,7 @@ use Rattle.history.proofs.Paths.{Drawn, path_sound, path_found}
 use Rattle.scheduler.specs.declared.tables.Tables.{Tables}
 use Rattle.scheduler.specs.Slots.{status_of, belongs, slot, slot_of}
 use Rattle.scheduler.specs.Reading.{item, row, state, Taken, Sound}
-use Rattle.scheduler.specs.Marks.{Sources, Draws, slot_edge, TellsPath, TellsCycle}
+use Rattle.scheduler.specs.Marks.{Sources, Draws, slot_edge, TellsCycle}
 use Rattle.scheduler.proofs.Counting.{present_taken}
 use Rattle.scheduler.proofs.Sounds.{belongs_taken, belongs_number, taken_within, slot_mine, slot_of_number, slots_tell}
 
@@ -31,6 +31,11 @@ and_swap false false = refl
 pub path_along : {E D : Relation} (f : ℕ → ℕ) → ((a b : ℕ) → E a b → D (f a) (f b)) → {i j : ℕ} → Path E i j → Path D (f i) (f j)
 path_along f g {i} {j} (edge e) = edge (g i j e)
 path_along f g {i} (◌then◌ {j = m} e p) = ◌then◌ (g i m e) (path_along f g p)
+
+-- a path leads from slot k to itself, or none does
+abbrev pub TellsPath : List ℕ → ℕ → Bool → Type 0
+TellsPath rows k true = Path (Edges 32 (marked 32 rows)) k k
+TellsPath rows k false = Path (Edges 32 (marked 32 rows)) k k → ⊥
 
 -- a row that has got the marks of a set of slots
 pub row_drawn : (rows : List ℕ) (k from marks : ℕ) → k < length rows → ((a : ℕ) → has marks a ≡ (has (row rows k) a || has from a)) → (a b : ℕ) → has (row (set rows k marks) b) a ≡ slot_edge rows k from a b

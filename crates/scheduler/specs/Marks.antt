@@ -4,7 +4,6 @@ use Rattle.std.specs.Prelude.{◌≡◌, ℕ, Bool, true, false, not, ◌&&◌, 
 use Rattle.graph.specs.Edges.{Edges}
 use Rattle.graph.specs.Nodes.{has}
 use Rattle.graph.specs.Paths.{Path}
-use Rattle.graph.specs.Rows.{marked}
 use Rattle.history.specs.Machine.{let_go}
 use Rattle.scheduler.specs.declared.tables.ItemState.{ItemState}
 use Rattle.scheduler.specs.Reading.{item, row}
@@ -52,11 +51,6 @@ slot_edge rows k from a b = has (row rows b) a || b == k && has from a
 abbrev pub Draws : List ℕ → ℕ → ℕ → List ℕ → Type 0
 Draws rows k from rows' =
     (rows' ≡ set rows k (row rows' k)) × ((a : ℕ) → has (row rows' k) a ≡ (has (row rows k) a || has from a))
-
--- a path leads from slot k to itself, or none does
-abbrev pub TellsPath : List ℕ → ℕ → Bool → Type 0
-TellsPath rows k true = Path (Edges 32 (marked 32 rows)) k k
-TellsPath rows k false = Path (Edges 32 (marked 32 rows)) k k → ⊥
 
 -- with these edges drawn, a path leads from slot k to itself exactly when the answer is true
 abbrev pub TellsCycle : List ℕ → ℕ → ℕ → Bool → Type 0

@@ -5,7 +5,7 @@ ghost use Rattle.scheduler.specs.Cores.{machine, Ends, held_by};
 ghost use Rattle.scheduler.specs.Reading.{RunsAt, Stopped, Counted, held_below};
 ghost use Rattle.scheduler.specs.Slots.{slot_of};
 
-use super::hub_core::Core;
+use super::hub_core::{Core, MOST_SERVED};
 use super::slots::SlotStatus;
 use super::sweeps::{clear_edges, clear_items, release_items};
 use history::refusal::Refusal;
@@ -36,6 +36,7 @@ impl Core {
     }
 
     // Aborts a job.
+    // `end` differs in the call in the middle: to share the rest would take a closure, and be no plainer.
     pub fn abort(&mut self, job: u32) -> Result<(), Refusal>
         ensures { (values : List ℕ) (room : ℕ) → Aborts (machine self.old values room) job result (machine self.new values room) }
     {
@@ -49,7 +50,7 @@ impl Core {
         ensures { (values : List ℕ) (room : ℕ) → items ≡ length values → Counted self.now.tables job values room result }
     {
         self.running(job)?;
-        Ok(self.count_below(job, items.min(64)))
+        Ok(self.count_below(job, items.min(MOST_SERVED)))
     }
 
     // How many of the first items the job holds.

@@ -25,6 +25,7 @@ impl ItemState {
     }
 
     // Whether the job may step on the item as far as its holder goes: refused if another job holds it.
+    // By a match with a guard: `filter` with a `map_or` of two results reads no plainer.
     pub(crate) fn admit(&self, job: u32) -> Result<(), Refusal>
         ensures { MatchResult result (λ _. held_by_another job self.now.held ≡ None) (λ r. held_by_another job self.now.held ≡ Some r) }
     {

@@ -15,6 +15,7 @@ pub enum SlotStatus {
 }
 
 // A place of the job table: free, or taken by one job. The number of a free slot means nothing.
+// So it stays one struct, of which a call changes a field, and no enum with a number in two variants.
 #[derive(Clone, Copy, PartialEq, Eq, Debug)]
 pub struct Slot {
     pub job: u32,

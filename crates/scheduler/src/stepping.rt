@@ -6,13 +6,14 @@ ghost use Rattle.scheduler.specs.Cores.{machine};
 ghost use Rattle.scheduler.specs.Marks.{Draws, TellsCycle};
 ghost use Rattle.scheduler.specs.Reading.{Admitted, Barred};
 
-use super::hub_core::Core;
+use super::hub_core::{Core, MOST_SERVED};
 use super::items::Access;
 use graph::nodes::union;
 use graph::path::find_path;
 use history::refusal::Refusal;
 
 // Draws edges from these slots to this one.
+// It takes the rows alone, so that the other tables stay out of its contract; `closes_cycle` does so too.
 fn draw(rows: &mut [u64; 32], slot: usize, from: u64)
     requires { slot < 32 }
     ensures { Draws rows.old slot from rows.new }
@@ -37,7 +38,7 @@ impl Core {
         ensures { MatchResult result (Admitted self.now.tables (min 64 items) job item) (Barred self.now.tables (min 64 items) job item) }
     {
         let slot = self.running(job)?;
-        if item as usize >= items.min(64) {
+        if item as usize >= items.min(MOST_SERVED) {
             return Err(Refusal::ItemNotServed);
         }
         self.tables.items[item as usize].admit(job)?;
@@ -52,6 +53,7 @@ impl Core {
     {
         let slot = self.admit(items, job, item)? as usize;
         let at = item as usize;
+        // Copied first: through a borrow the check asks for the invariant of `Core` once more.
         let state = self.tables.items[at];
         let from = state.sources(access, slot);
         if closes_cycle(&self.tables.jobs.edges, slot, from) {
@@ -68,6 +70,7 @@ impl Core {
         ensures { (values : List ℕ) (room : ℕ) → items ≡ length values → (item < items → stored ≡ slice_index values item) → Reads (machine self.old values room) job item result (machine self.new values room) }
     {
         self.step(items, job, item, Access::Read)?;
+        // Copied first, as in `step`.
         let state = self.tables.items[item as usize];
         Ok(state.seen(stored))
     }

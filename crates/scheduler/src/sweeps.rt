@@ -1,4 +1,5 @@
 // Taking a job out of the edges and the items, place by place.
+// Each function takes the rows or the items alone, so that the other tables stay out of its contract.
 ghost use Rattle.std.specs.Prelude.{◌≡◌, ℕ};
 ghost use Rattle.scheduler.specs.Marks.{RowWithout, EdgesWithout, ItemsWithout, ItemsLetGo};
 

@@ -12,6 +12,7 @@ pub struct ItemState {
 }
 
 // The slots of the jobs, and for each slot the set of slots from which an edge leads into it.
+// Two arrays: a slot is lent and changed by itself, and the rows are handed whole to the search.
 #[derive(Clone, Copy)]
 pub struct JobTable {
     pub slots: [Slot; 32],

@@ -5,6 +5,7 @@ use std::process::Abort;
 use store::{LogStore, MemoryStore, Store};
 
 // A call, with the numbers that it takes: job, item, value. `Retire` lends so many places, 100 at most.
+// No `Act`: an act of a trace tells the number of an opened job and the value that is read, a call doesn't.
 #[derive(Clone, Copy)]
 pub(crate) enum Call {
     Open,
@@ -18,6 +19,7 @@ pub(crate) enum Call {
 
 // What a call answers. `Wrote` has the count and the first three places of the list, in which every place
 // was 9.
+// Beside history's `Answer` it has the refusal, so that one list holds all, and what a retire wrote.
 #[derive(Clone, Copy, PartialEq, Eq, Debug)]
 pub(crate) enum Answer {
     Done,

@@ -2,8 +2,7 @@ use Rattle.std.proofs.Common.{ℕ, List, Some, None, is_some, arith}
 use Rattle.graph.specs.Edges.{Edges}
 use Rattle.graph.specs.Outcomes.{Finds}
 use Rattle.graph.specs.Rows.{marked}
-use Rattle.scheduler.specs.Marks.{TellsPath}
-use Rattle.scheduler.proofs.Draws.{cycle_told}
+use Rattle.scheduler.proofs.Draws.{TellsPath, cycle_told}
 use Rattle.scheduler.proofs.stepping.closes_cycle.Goals as goal
 
 -- whether a path was found

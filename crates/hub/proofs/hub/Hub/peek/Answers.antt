@@ -3,9 +3,9 @@ use Rattle.history.specs.Machine.{refusal, granted_answer, granted_state, refuse
 use Rattle.scheduler.specs.Reading.{state}
 use Rattle.hub.proofs.hub.Hub.peek.Goals as goal
 
-pub returns-then-item-ge64 : goal.returns-then-item-ge64
+pub returns-then-item-ge-MOST_SERVED : goal.returns-then-item-ge-MOST_SERVED
 unfolding state refusal refused_state answer after_call put_count
-returns-then-item-ge64 g c = grind arith
+returns-then-item-ge-MOST_SERVED g c = grind arith
 
 pub returns : goal.returns
 unfolding state refusal granted_answer granted_state refused_state answer after_call put_count
