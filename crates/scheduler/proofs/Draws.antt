@@ -57,8 +57,8 @@ module _ (rows : List ℕ) (k from marks : ℕ) (low : k < length rows) (joined 
   edge_marked a b (f, g, h) = (f, g, true_T _ (and_from (ltb b 32) _ (lt-ltb b 32 g) (row_drawn rows k from marks low joined a b ∙ T_true _ h)))
 
   cycle_with : (r : Bool) → TellsPath (set rows k marks) k r → TellsCycle rows k from r
-  cycle_with false h = ((λ e. absurd (false≢true e)), (λ _ p. h (path_map edge_marked p)))
-  cycle_with true h = ((λ _. path_map marked_edge h), (λ e. absurd (true≢false e)))
+  cycle_with false h = ((λ e. absurd (false≢true e)), (λ p. absurd (h (path_map edge_marked p))))
+  cycle_with true h = ((λ _. path_map marked_edge h), (λ _. refl))
 
 pub cycle_told : (rows rows' : List ℕ) (k from : ℕ) → k < length rows → Draws rows k from rows' → (r : Bool) → TellsPath rows' k r → TellsCycle rows k from r
 cycle_told rows rows' k from low draws r h = cycle_with rows k from (row rows' k) low draws.1 r (subst (λ l. TellsPath l k r) draws.0 h)
@@ -132,6 +132,6 @@ module _ (t : Tables) (sound : Sound t) (j k : ℕ) (is : k ≡ slot_of j t.jobs
       pub search_tells : (r : Bool) → TellsCycle t.jobs.edges k from r → closes_cycle (state t values room) j x writes ≡ r
       search_tells true h = path_found (drawn (state t values room) j x writes) (jobs (state t values room)) j j (λ a b e. listed_job a (drawn_taken a b e).0) (slots_to_jobs (h.0 refl))
       search_tells false h = elim (cases_Bool (closes_cycle (state t values room) j x writes)) [
-        | inl e ↦ absurd (h.1 refl (jobs_to_slots (path_sound (drawn (state t values room) j x writes) (jobs (state t values room)) j j e)))
+        | inl e ↦ absurd (false≢true (h.1 (jobs_to_slots (path_sound (drawn (state t values room) j x writes) (jobs (state t values room)) j j e))))
         | inr e ↦ e
       ]
