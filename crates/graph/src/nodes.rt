@@ -1,5 +1,5 @@
 // Sets of nodes, one bit of a word for each: node 0 is the lowest bit. A node from 64 on is in no set.
-ghost use Rattle.std.specs.Prelude.{◌≡◌, ℕ, ◌≤◌, false, not, ◌&&◌, ◌||◌, ◌==◌, nat_lt, Decides};
+ghost use Rattle.std.specs.Prelude.{◌≡◌, ℕ, ◌≤◌, false, not, ◌&&◌, ◌||◌, ◌==◌, nat_lt, IsTrue, ◌↔◌};
 ghost use Rattle.graph.specs.Nodes.{has, MemberOf};
 
 // A plain word: rows of such words are handed whole to the search.
@@ -32,7 +32,7 @@ pub(crate) fn none() -> NodeSet
 // Whether the set has no node.
 #[tactic(auto, using(crate::proofs::Words::word_empty))]
 pub fn is_empty(set: NodeSet) -> bool
-    ensures { Decides result ((k : ℕ) → has set k ≡ false) }
+    ensures { IsTrue result ↔ ((k : ℕ) → has set k ≡ false) }
 {
     set == 0
 }

@@ -1,5 +1,5 @@
 // The order of the nodes of a set by their keys and edges.
-ghost use Rattle.std.specs.Prelude.{◌≡◌, ℕ, ◌<◌, Decides};
+ghost use Rattle.std.specs.Prelude.{◌≡◌, ℕ, ◌<◌, IsTrue, ◌↔◌};
 ghost use Rattle.graph.specs.Graphs.{edges_of};
 ghost use Rattle.graph.specs.Nodes.{has};
 ghost use Rattle.graph.specs.Orders.{Free, Orders, Picks, key_of, goes_first};
@@ -19,7 +19,7 @@ fn key(keys: &[u32], node: usize) -> u32
 // Whether no node of the set has an edge into the node.
 fn is_free<G: Graph>(graph: &G, left: NodeSet, node: usize) -> bool
     requires { node < G.Graph.size graph.now }
-    ensures { Decides result (Free (edges_of G.Graph graph.now) (has left) node) }
+    ensures { IsTrue result ↔ (Free (edges_of G.Graph graph.now) (has left) node) }
 {
     is_empty(intersection(leading(graph, node), left))
 }

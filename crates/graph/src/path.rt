@@ -1,5 +1,5 @@
 // Path search, breadth first.
-ghost use Rattle.std.specs.Prelude.{◌≡◌, ℕ, ◌+◌, ◌<◌, true, false, [], length, slice_index, Decides};
+ghost use Rattle.std.specs.Prelude.{◌≡◌, ℕ, ◌+◌, ◌<◌, true, false, [], length, slice_index, IsTrue, ◌↔◌};
 ghost use Rattle.graph.specs.Graphs.{edges_of};
 ghost use Rattle.graph.specs.Nodes.{has};
 ghost use Rattle.graph.specs.Outcomes.{Finds};
@@ -120,7 +120,7 @@ pub(crate) fn leading<G: Graph>(graph: &G, node: usize) -> NodeSet
 #[tactic(auto, using(crate::proofs::Reach::reaching_all))]
 fn reaches<G: Graph>(graph: &G, start: usize, goal: usize) -> bool
     requires { goal < G.Graph.size graph.now }
-    ensures { Decides result (Path (edges_of G.Graph graph.now) start goal) }
+    ensures { IsTrue result ↔ (Path (edges_of G.Graph graph.now) start goal) }
 {
     let mut seen = leading(graph, goal);
     let mut left = seen;

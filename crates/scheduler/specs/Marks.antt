@@ -1,6 +1,6 @@
 -- What is left of the edges and of the items when a job's slot is taken out. Rests on Reading and on the
 -- machine.
-use Rattle.std.specs.Prelude.{◌≡◌, ℕ, Bool, not, Decides, ◌&&◌, ◌||◌, List, length, set, ◌==◌}
+use Rattle.std.specs.Prelude.{◌≡◌, ℕ, Bool, not, IsTrue, ◌↔◌, ◌&&◌, ◌||◌, List, length, set, ◌==◌}
 use Rattle.graph.specs.Edges.{Edges}
 use Rattle.graph.specs.Nodes.{has}
 use Rattle.graph.specs.Paths.{Path}
@@ -54,4 +54,4 @@ Draws rows k from rows' =
 
 -- with these edges drawn, a path leads from slot k to itself exactly when the answer is true
 abbrev pub TellsCycle : List ℕ → ℕ → ℕ → Bool → Type 0
-TellsCycle rows k from r = Decides r (Path (Edges 32 (slot_edge rows k from)) k k)
+TellsCycle rows k from r = IsTrue r ↔ (Path (Edges 32 (slot_edge rows k from)) k k)
