@@ -5,6 +5,7 @@ pub mod Draws
 pub mod Ends
 pub mod JobSlots
 pub mod Makes
+pub mod Numbers
 pub mod Opens
 pub mod Permits
 pub mod Removes

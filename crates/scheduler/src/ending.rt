@@ -12,7 +12,9 @@ use history::refusal::Refusal;
 
 impl Core {
     // The slot of a job that runs.
-    // Beside a refusal a slot is a u32: a usize there makes the answer wider, and a granted read slower.
+    // Beside a refusal a slot is a u32: a usize there makes the answer wider, and a granted read slower. Inlined for
+    // the same reason: a call hands the answer over in memory.
+    #[inline(always)]
     pub(crate) fn running(&self, job: u32) -> Result<u32, Refusal>
         ensures { MatchResult result (RunsAt self.now.tables job) (Stopped self.now.tables job) }
     {

@@ -46,7 +46,8 @@ impl Core {
     }
 
     // Lets the job step on an item of a store that has so many, and notes the step. Where the step would
-    // close a cycle the job is aborted.
+    // close a cycle the job is aborted. Inlined: a read and a write each know which step they make.
+    #[inline(always)]
     fn step(&mut self, items: usize, job: u32, item: u32, access: Access) -> Result<(), Refusal>
         ensures inside { OnOk result (item < min 64 items) }
         ensures leads { (values : List ℕ) (room : ℕ) → items ≡ length values → Leads (machine self.old values room) (asked job item access) result (machine self.new values room) }
