@@ -25,7 +25,8 @@ pub struct Reply {
 }
 
 impl Request {
-    // The act of the request, if its kind is known. A kind is a number, since callers in C give it.
+    // The act of the request, if its kind is known. A kind is a number, since callers in C give it. Not `TryFrom`: there
+    // is no error to tell.
     pub(crate) fn act(&self) -> Option<Act>
         ensures { result ≡ act_of self.now }
     {

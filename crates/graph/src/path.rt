@@ -89,7 +89,7 @@ fn search<G: Graph>(graph: &G, start: usize, goal: usize) -> Option<NodeList>
     let mut found = Found::start(start);
     let mut head = 0;
     let mut last = None;
-    // Nested loops over the frontier and the nodes, left by a label from the inner one.
+    // Nested loops over the frontier and the nodes, left by a label from the inner one: a rule of the project.
     'search: while head < found.order.len() {
         let at = found.order[head];
         for to in 0..size {

@@ -23,7 +23,8 @@ pub enum Refusal {
 }
 
 impl Refusal {
-    // The number by which a refusal is known outside the program.
+    // The number by which a refusal is known outside the program. By cases, as the documents fix them: `u32::from`
+    // would not say which number it is.
     pub fn number(&self) -> u32
         ensures { result ≡ refusal_number self.now }
     {

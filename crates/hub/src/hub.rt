@@ -66,6 +66,7 @@ impl<S: Store> Hub<S> {
         ensures store { self.new.store ≡ self.old.store }
     {
         let items = self.store.items();
+        // A read of an item that the store does not have is refused, whatever stands for its value.
         let stored = self.store.get(item).unwrap_or(0);
         self.core.read(items, job, item, stored)
     }

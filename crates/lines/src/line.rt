@@ -26,6 +26,7 @@ pub enum Outcome {
 }
 
 // A line tells what the hub answered.
+// By cases, here and in the columns: one arm is one row of the table in the documents.
 impl From<Result<Answer, Refusal>> for Outcome {
     ghost from_gives = { λ answer outcome. outcome ≡ outcome_of answer };
 
@@ -47,7 +48,7 @@ pub struct Line {
 }
 
 // The line that tells why a trace was not read. It has the number of the line that was refused, or 0 where
-// the whole input was.
+// the whole input was. No `From`: this name says what the line tells.
 pub fn not_read(refusal: ReadRefusal) -> Line
     ensures { result ≡ refusal_line refusal }
 {
@@ -62,7 +63,7 @@ pub fn not_read(refusal: ReadRefusal) -> Line
 }
 
 // The second column: 0 or the number of a refusal, or the mark of a retired job.
-// No Option: a retired job has a mark of its own there, not nothing.
+// No Option: a retired job has a mark of its own there, not nothing. A number, whoever refuses: that is what is printed.
 #[derive(Clone, Copy, PartialEq, Eq, Debug)]
 pub enum AnswerColumn {
     Code(u32),

@@ -11,7 +11,7 @@ use super::sweeps::{clear_edges, clear_items, release_items};
 use history::refusal::Refusal;
 
 impl Core {
-    // The slot of a job that runs.
+    // The slot of a job that runs. By cases: each status has its own answer.
     // Beside a refusal a slot is a u32: a usize there makes the answer wider, and a granted read slower. Inlined for
     // the same reason: a call hands the answer over in memory.
     #[inline(always)]

@@ -9,7 +9,8 @@ use graph::nodes::{union, with, without};
 use history::holding::Holding;
 use history::refusal::Refusal;
 
-// What a step does with its item: it reads it, or writes this value to it.
+// What a step does with its item: it reads it, or writes this value to it. The judge has an enum of this name without
+// a value, of which it has no use.
 #[derive(Clone, Copy)]
 pub enum Access {
     Read,

@@ -82,6 +82,7 @@ impl JobTable {
     pub(crate) fn slots_with(&self, status: SlotStatus) -> u64
         ensures { SlotsWith status self.now.slots result }
     {
+        // A loop: the set grows slot by slot.
         let mut set = 0;
         for (k, slot) in self.slots.iter().enumerate() {
             if slot.status == status {

@@ -51,8 +51,8 @@ fn read_value(bytes: &[u8; 8]) -> u32
     u32::from_be_bytes([a, b, c, d])
 }
 
-// The value in the last of the first records that is of an item, or 0 if none is. It looks from the
-// back, where an item that is put often is found soon.
+// The value in the last of the first records that is of an item, or 0 if none is: the value of an item that was never
+// put. It looks from the back, where an item that is put often is found soon.
 fn last_value(bytes: &[u8], item: u8, used: usize) -> u32
     requires { used ≤ whole bytes.now }
     ensures { result ≡ held bytes.now item used }

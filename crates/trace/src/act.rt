@@ -18,7 +18,7 @@ pub enum Act {
 }
 
 impl Act {
-    // What it does.
+    // What it does. By cases: each act is of one kind.
     pub fn kind(&self) -> Kind
         ensures { result ≡ kind_of_act self.now }
     {

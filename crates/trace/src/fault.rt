@@ -21,7 +21,7 @@ pub enum Column {
 }
 
 impl Column {
-    // The largest number that the field may hold.
+    // The largest number that the field may hold. By cases, as the documents have it; so are the numbers below.
     pub fn limit(self) -> u32
         ensures { result ≡ limit self }
     {
@@ -106,7 +106,7 @@ impl LineFault {
         }
     }
 
-    // The field at fault, 1 to 4, or 0 where the line as a whole is.
+    // The field at fault, 1 to 4, or 0 where the line as a whole is: the documents fix the 0 too.
     pub fn field(&self) -> u32
         ensures { result ≡ field_of self.now.what }
     {
@@ -135,7 +135,7 @@ impl From<(LinePlace, FieldFault)> for LineFault {
 }
 
 // Why a trace is not read to its end: a line at fault, or a good line for which the lent list has no
-// place left.
+// place left. An enum of its own, as the writer's below: each case is a refusal, and none means nothing.
 #[derive(Clone, Copy, PartialEq, Eq, Debug)]
 pub enum ReadRefusal {
     Line(LineFault),

@@ -14,7 +14,7 @@ pub enum Kind {
 }
 
 impl Kind {
-    // The letter that a line begins with.
+    // The letter that a line begins with. By cases: the documents fix the letters.
     pub fn letter(self) -> char
         ensures { result ≡ letter self }
     {

@@ -63,7 +63,8 @@ fn users(ledger: &Ledger, before: &[Step], item: u32) -> Users
     }
 }
 
-// Takes an access of the item by the job, after the steps before.
+// Takes an access of the item by the job, after the steps before. The node of an open job is asked for in place, here
+// and below: with a function between that answers a place or a refusal the judge was slower.
 fn access(
     ledger: &mut Ledger,
     before: &[Step],

@@ -13,7 +13,7 @@ pub enum JudgeRefusal {
 }
 
 impl JudgeRefusal {
-    // The number by which a refusal is known outside the program.
+    // The number by which a refusal is known outside the program. By cases, as the documents fix them.
     pub fn number(&self) -> u32
         ensures { result ≡ refusal_number self.now }
     {

@@ -5,7 +5,7 @@ ghost use Rattle.verdict.specs.Users.{AddsUser, clashes, no_users};
 
 use graph::nodes::{NodeSet, union, with};
 
-// How a job uses an item.
+// How a job uses an item. The hub has an enum of this name whose write carries the value that is then held.
 #[derive(Clone, Copy)]
 pub(crate) enum Access {
     Read,

@@ -10,6 +10,7 @@ use store::{LogStore, MemoryStore, Store};
 
 // Opens 32 jobs, of which the first gets this number.
 fn open_32<S: Store>(rt: &impl std::process::Abort, hub: &mut Hub<S>, first: u32) {
+    // By number: it is added to the first one.
     for k in 0..32 {
         play(rt, hub, &[(Open, Is(first.saturating_add(k)))]);
     }
