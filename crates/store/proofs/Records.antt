@@ -1,6 +1,5 @@
 -- How the records of a list of bytes are counted and what they hold when one is appended.
 use Rattle.std.proofs.Common.{◌≡◌, ℕ, zero, suc, ◌+◌, ◌-◌, ◌*◌, ◌/◌, ◌%◌, ◌^◌, ◌<◌, ◌≤◌, cond, eqb, List, [], ◌∷◌, ◌++◌, length, get_or, take, drop, set, Some, None, sym, refl, ap, ◌∙◌, inl, inr, ◌==◌, reverse, add-one, arith, get_or-set_other, get_or-set_same, rules, below_more}
-use borrow.Rule.Slice.PartMut.{put_mid}
 use Rattle.std.proofs.lemmas.List.{places, drop-drop, reverse-append, get_or_append_left, get_or-append_right, same_lists, length-set}
 use Rattle.std.proofs.lemmas.Grind.{common_steps}
 use Rattle.std.proofs.lemmas.Bool.{cases_eq, cond-true, cond-false, cond_both, eqb-true, eqb-false, lt-ltb, le-ltb, eq-eqb, ne_eqb}
@@ -75,12 +74,6 @@ at_contents bytes items n item l =
 -- and outside
 pub at_contents_outside : (bytes : List ℕ) (items n item : ℕ) → items ≤ item → at (contents bytes items n) item ≡ None
 at_contents_outside bytes items n item l = rw (length_contents bytes items n, le-ltb item items l) refl
-
--- the part of the bytes where record n stands, written over
-pub put_record : (bytes part : List ℕ) (n item value : ℕ) → part ≡ written item value → put_mid (n * 8) (n * 8 + 8 - n * 8) bytes part ≡ with_record bytes n item value
-put_record bytes part n item value e =
-    let eight : n * 8 + 8 - n * 8 ≡ 8 = omega arith in
-    rw (e, eight, drop-drop 8 (n * 8) bytes) refl
 
 used_front_from : (bytes : List ℕ) (n k : ℕ) → n + k ≡ whole bytes → ((i : ℕ) → i < n → mark_of bytes i ≡ 165) → UsedFront bytes (unmarked_from bytes n k)
 used_front_from bytes n zero w marks = record { within = omega arith; marks = marks; stops = λ l. absurd (omega arith) }
