@@ -1,9 +1,10 @@
 -- The part of a graph between the nodes of a set: its edges are those within the set.
 use Rattle.std.proofs.Common.{ℕ, ◌<◌, ◌≤◌, Bool, true, false, ◌&&◌, T, List, [], ◌∷◌, ◌++◌, Option, Some, None, MatchOption, sym, subst, arith}
-use Rattle.arrayvec.specs.ArrayVec.{ArrayVec}
 use Rattle.graph.specs.Edges.{Edges, Within}
+use Rattle.graph.specs.Lists.{listed}
 use Rattle.graph.specs.Nodes.{has}
 use Rattle.graph.specs.Outcomes.{Finds, FindsCycle}
+use Rattle.graph.specs.declared.list.NodeList.{NodeList}
 use Rattle.graph.specs.Paths.{Relation, Path, edge, ◌then◌, Cycle, Linked, ShowsPath, ShowsCycle}
 use Rattle.graph.proofs.Paths.{path_map, linked_map}
 
@@ -48,7 +49,7 @@ module _ (size set : ℕ) (leads : ℕ → ℕ → Bool) where
   part_no_cycle n l none c = none c.0 (omega (arith, starts_inside c.1)) (path_map within_part c.1)
 
   -- the search for a path of the part from each node to itself finds a cycle within the set, if there is one
-  pub part_finds : (r : Option (ArrayVec ℕ)) → MatchOption r ((k : ℕ) → k < size → Finds PartEdges k k None) (λ l. (k : ℕ) × Finds PartEdges k k (Some l))
+  pub part_finds : (r : Option NodeList) → MatchOption r ((k : ℕ) → k < size → Finds PartEdges k k None) (λ l. (k : ℕ) × Finds PartEdges k k (Some l))
       → FindsCycle (Within set (Edges size leads)) r
   part_finds None h = part_no_cycle size (omega arith) h
-  part_finds (Some l) h = part_cycle h.0 l.items h.1.0 h.1.1
+  part_finds (Some l) h = let c = part_cycle h.0 (listed l) h.1.0 h.1.1 in (c.0, c.1, h.1.2, h.1.3)

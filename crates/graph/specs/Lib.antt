@@ -1,5 +1,6 @@
 pub mod Edges
 pub mod Graphs
+pub mod Lists
 pub mod Nodes
 pub mod Orders
 pub mod Outcomes

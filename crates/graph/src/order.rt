@@ -1,11 +1,12 @@
 // The order of the nodes of a set by their keys and edges.
-ghost use Rattle.std.specs.Prelude.{◌≡◌, ℕ, ◌<◌, IsTrue, ◌↔◌};
+ghost use Rattle.std.specs.Prelude.{◌≡◌, ℕ, ◌<◌, ◌≤◌, length, IsTrue, ◌↔◌};
 ghost use Rattle.graph.specs.Graphs.{edges_of};
+ghost use Rattle.graph.specs.Lists.{listed};
 ghost use Rattle.graph.specs.Nodes.{has};
 ghost use Rattle.graph.specs.Orders.{Free, Orders, Picks, key_of, goes_first};
 
 use crate::graph::Graph;
-use crate::list::NodeList;
+use crate::list::{NodeList, Nodes};
 use crate::nodes::{NodeSet, contains, intersection, is_empty, without};
 use crate::path::leading;
 
@@ -57,13 +58,15 @@ pub fn next_free<G: Graph>(
 // as having key 0.
 #[tactic(auto, using(crate::proofs::Orders::placed_next, crate::proofs::Orders::placed_all, crate::proofs::Stuck::ordered_orders))]
 pub fn topological_order<G: Graph>(graph: &G, keys: &[u32], set: NodeSet) -> NodeList
-    ensures { Orders (edges_of G.Graph graph.now) (G.Graph.size graph.now) keys.now set result.items }
+    ensures count { result.count ≤ 64 }
+    ensures places { length result.nodes ≡ 64 }
+    ensures order { Orders (edges_of G.Graph graph.now) (G.Graph.size graph.now) keys.now set (listed result) }
 {
-    let mut order = NodeList::new();
+    let mut order = Nodes::new();
     let mut left = set;
     while let Some(node) = next_free(graph, keys, left, left) {
         order.push(node);
         left = without(left, node);
     }
-    order
+    NodeList::of(&order)
 }

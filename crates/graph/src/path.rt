@@ -7,7 +7,7 @@ ghost use Rattle.graph.specs.Paths.{Path};
 ghost use Rattle.graph.specs.Search.{Adds, Starts, depth_of, from_of, way_before};
 
 use crate::graph::Graph;
-use crate::list::NodeList;
+use crate::list::{NodeList, Nodes};
 use crate::nodes::{NodeSet, any_node, below, contains, intersection, minus, union, with, without};
 
 // How a search came to a node: the node before it on its way from the start, and how many edges that way has.
@@ -20,7 +20,7 @@ struct Reach {
 // The nodes that a search has found, in the order of finding, and how it came to each.
 #[derive(Drop)]
 struct Found {
-    order: NodeList,
+    order: Nodes,
     seen: NodeSet,
     reach: [Reach; 64],
 }
@@ -31,7 +31,7 @@ impl Found {
         requires { start < 64 }
         ensures { Starts start result }
     {
-        let mut order = NodeList::new();
+        let mut order = Nodes::new();
         order.push(start);
         Found {
             order,
@@ -62,13 +62,13 @@ impl Found {
 
     // The way on which the search came to the node, with the node at its end.
     #[tactic(auto, using(crate::proofs::Search::way_push))]
-    fn way_to(&self, node: usize) -> NodeList
+    fn way_to(&self, node: usize) -> Nodes
         requires inside { node < 64 }
         requires near { depth_of self.now node < 64 }
         requires low { (k : ℕ) → from_of self.now k < 64 }
         ensures { result.items ≡ way_before self.now (depth_of self.now node + 1) node [] }
     {
-        let mut way = NodeList::new();
+        let mut way = Nodes::new();
         let mut at = node;
         for _ in 0..self.reach[node].depth + 1 {
             way.push(at);
@@ -104,7 +104,7 @@ fn search<G: Graph>(graph: &G, start: usize, goal: usize) -> Option<NodeList>
         head += 1;
     }
     let at = last?;
-    Some(found.way_to(at))
+    Some(NodeList::of(&found.way_to(at)))
 }
 
 // The nodes from which an edge leads to this one.

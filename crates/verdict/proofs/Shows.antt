@@ -1,11 +1,12 @@
 -- From the nodes of a ledger to the jobs of the acts: cycles and orders.
 use Rattle.std.proofs.Common.{◌≡◌, ℕ, ◌<◌, ◌≤◌, T, ltb, List, [], ◌∷◌, ◌++◌, length, get_or, take, drop, Some, None, sym, refl, ap, ◌∙◌, subst, inl, inr, ⊎_elim, arith, lt→ltb}
 use Rattle.std.proofs.lemmas.List.{length-take-le}
-use Rattle.arrayvec.specs.ArrayVec.{ArrayVec}
 use Rattle.graph.specs.Edges.{Within}
+use Rattle.graph.specs.Lists.{listed}
 use Rattle.graph.specs.Nodes.{has}
 use Rattle.graph.specs.Orders.{Test, Free, but, Ordered, Orders}
 use Rattle.graph.specs.Paths.{Relation, Path, edge, ◌then◌, Cycle, ◌∈◌, Distinct, Linked, Forward, ShowsCycle}
+use Rattle.graph.specs.declared.list.NodeList.{NodeList}
 use Rattle.graph.proofs.Lists.{distinct_few, in_at}
 use Rattle.graph.proofs.Orders.{but_parts, but_both}
 use Rattle.graph.proofs.Parts.{T-both, T-parts}
@@ -208,35 +209,39 @@ shows_distinct E [] h = absurd h
 shows_distinct E (n ∷ ns) h = h.1
 
 -- the nodes that are shown are those of jobs, and the list has places for them
-module _ (l : Ledger) (n : ArrayVec ℕ) (places : ℕ) (r : Ready l places) where
-  pub cycle_jobs : NodeCycle l (Some n) → (k : ℕ) → k < length n.items → get_or n.items k 0 < count l
-  cycle_jobs c k b = cycle_inside r.0.0 l r.0.1 n.items c.1 (get_or n.items k 0) (in_at n.items k b)
+module _ (l : Ledger) (n : NodeList) (places : ℕ) (r : Ready l places) where
+  pub cycle_jobs : NodeCycle l (Some n) → (k : ℕ) → k < length (listed n) → get_or (listed n) k 0 < count l
+  cycle_jobs c k b = cycle_inside r.0.0 l r.0.1 (listed n) c.1 (get_or (listed n) k 0) (in_at (listed n) k b)
 
-  pub cycle_fits : NodeCycle l (Some n) → length n.items ≤ places
-  cycle_fits c = places_fit l n.items places r.1 (shows_distinct _ n.items c.1) (cycle_inside r.0.0 l r.0.1 n.items c.1)
+  pub cycle_fits : NodeCycle l (Some n) → length (listed n) ≤ places
+  cycle_fits c = places_fit l (listed n) places r.1 (shows_distinct _ (listed n) c.1) (cycle_inside r.0.0 l r.0.1 (listed n) c.1)
 
-  pub order_jobs : NodeOrder l n → NodeCycle l None → (k : ℕ) → k < length n.items → get_or n.items k 0 < count l
-  order_jobs o none k b = order_inside r.0.0 l r.0.1 n.items o none (get_or n.items k 0) (in_at n.items k b)
+  pub order_jobs : NodeOrder l n → NodeCycle l None → (k : ℕ) → k < length (listed n) → get_or (listed n) k 0 < count l
+  order_jobs o none k b = order_inside r.0.0 l r.0.1 (listed n) o.0 none (get_or (listed n) k 0) (in_at (listed n) k b)
 
-  pub order_fits : NodeOrder l n → NodeCycle l None → length n.items ≤ places
-  order_fits o none = places_fit l n.items places r.1 o.distinct (order_inside r.0.0 l r.0.1 n.items o none)
+  pub order_fits : NodeOrder l n → NodeCycle l None → length (listed n) ≤ places
+  order_fits o none = places_fit l (listed n) places r.1 o.0.distinct (order_inside r.0.0 l r.0.1 (listed n) o.0 none)
+
+-- the count of a list of nodes is how many it has
+whole : (n : NodeList) → n.count ≤ 64 → length n.nodes ≡ 64 → length (listed n) ≡ n.count
+whole n few places = length-take-le n.count n.nodes (omega arith)
 
 -- the list after the numbers are put
-module _ (H : List Act) (l : Ledger) (k : Keeps H l) (n : ArrayVec ℕ) (before after : List ℕ) (b : length n.items ≤ length after)
-    (front : take (length n.items) after ≡ numbered l n.items) (rest : drop (length n.items) after ≡ drop (length n.items) before) where
-  pub cycle_decides : NodeCycle l (Some n) → Decides not_aborted H before (No (length n.items)) after
-  cycle_decides c = (
+module _ (H : List Act) (l : Ledger) (k : Keeps H l) (n : NodeList) (before after : List ℕ) (b : length (listed n) ≤ length after)
+    (front : take (length (listed n)) after ≡ numbered l (listed n)) (rest : drop (length (listed n)) after ≡ drop (length (listed n)) before) where
+  pub cycle_decides : NodeCycle l (Some n) → Decides not_aborted H before (No n.count) after
+  cycle_decides c = subst (λ m. Decides not_aborted H before (No m) after) (whole n c.2 c.3) (
     cycle_refutes H l k c.0,
-    record { count = length-take-le (length n.items) after b; cycle = subst (ShowsCycle (Edge not_aborted H)) (sym front) (cycle_shown H l k n.items c.1); rest = rest },
+    record { count = length-take-le (length (listed n)) after b; cycle = subst (ShowsCycle (Edge not_aborted H)) (sym front) (cycle_shown H l k (listed n) c.1); rest = rest },
   )
 
-  pub order_decides : NodeOrder l n → NodeCycle l None → Decides not_aborted H before (Yes (length n.items)) after
-  order_decides o none = (
-    order_serializable H l k n.items o none,
+  pub order_decides : NodeOrder l n → NodeCycle l None → Decides not_aborted H before (Yes n.count) after
+  order_decides o none = subst (λ m. Decides not_aborted H before (Yes m) after) (whole n o.1 o.2) (
+    order_serializable H l k (listed n) o.0 none,
     record {
-      count = length-take-le (length n.items) after b;
-      serial = subst (SerialOrder not_aborted H) (sym front) (order_serial H l k n.items o none);
-      smallest = subst (SmallestFirst (Edge not_aborted H) (Kept not_aborted H)) (sym front) (order_smallest H l k n.items o none);
+      count = length-take-le (length (listed n)) after b;
+      serial = subst (SerialOrder not_aborted H) (sym front) (order_serial H l k (listed n) o.0 none);
+      smallest = subst (SmallestFirst (Edge not_aborted H) (Kept not_aborted H)) (sym front) (order_smallest H l k (listed n) o.0 none);
       rest = rest;
     },
   )

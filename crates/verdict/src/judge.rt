@@ -1,5 +1,6 @@
 // The verdict on a list of steps, with the order or the cycle that shows it.
 ghost use Rattle.std.specs.Prelude.{◌≡◌, ◌↔◌, ℕ, ◌<◌, ◌≤◌, true, List, length, take, drop, Some, None, slice_index, IsTrue};
+ghost use Rattle.graph.specs.Lists.{listed};
 ghost use Rattle.graph.specs.Nodes.{has};
 ghost use Rattle.graph.specs.Paths.{◌∈◌};
 ghost use Rattle.history.specs.Acts.{not_aborted};
@@ -28,15 +29,22 @@ pub enum Verdict {
     No(usize),
 }
 
+// The nodes of a list, first to last.
+fn nodes_of(list: &NodeList) -> &[usize]
+    ensures { result.now ≡ listed list.now }
+{
+    list.nodes.get(..list.count).unwrap_or(&list.nodes)
+}
+
 // Puts the numbers of the jobs at these nodes into the list.
 fn put(ledger: &Ledger, chosen: &NodeList, numbers: &mut [u32])
-    requires fits { length chosen.now.items ≤ length numbers.old }
-    requires jobs { (k : ℕ) → k < length chosen.now.items → slice_index chosen.now.items k < count ledger.now }
-    ensures front { take (length chosen.now.items) numbers.new ≡ numbered ledger.now chosen.now.items }
-    ensures rest { drop (length chosen.now.items) numbers.new ≡ drop (length chosen.now.items) numbers.old }
+    requires fits { length (listed chosen.now) ≤ length numbers.old }
+    requires jobs { (k : ℕ) → k < length (listed chosen.now) → slice_index (listed chosen.now) k < count ledger.now }
+    ensures front { take (length (listed chosen.now)) numbers.new ≡ numbered ledger.now (listed chosen.now) }
+    ensures rest { drop (length (listed chosen.now)) numbers.new ≡ drop (length (listed chosen.now)) numbers.old }
 {
     // By index: over `iter_mut` and `zip` the invariant would speak of the places lent and of what they become.
-    for (at, node) in chosen.iter().enumerate() {
+    for (at, node) in nodes_of(chosen).iter().enumerate() {
         numbers[at] = ledger.numbers[*node];
     }
 }
@@ -44,11 +52,11 @@ fn put(ledger: &Ledger, chosen: &NodeList, numbers: &mut [u32])
 // Whether every node of the set stands in the list.
 #[tactic(auto, using(crate::proofs::Missing::missing_more, crate::proofs::Missing::missing_none, crate::proofs::Missing::all_there))]
 fn has_all(list: &NodeList, set: NodeSet) -> bool
-    ensures { IsTrue result ↔ ((n : ℕ) → has set n ≡ true → n ∈ list.now.items) }
+    ensures { IsTrue result ↔ ((n : ℕ) → has set n ≡ true → n ∈ listed list.now) }
 {
     // A loop: each node is taken out of the set, and what is left is asked once.
     let mut missing = set;
-    for node in list.iter() {
+    for node in nodes_of(list).iter() {
         missing = without(missing, *node);
     }
     is_empty(missing)
@@ -89,12 +97,12 @@ fn decide(ledger: &Ledger, numbers: &mut [u32]) -> Verdict
         // No: the list gets the numbers of the cycle.
         Some(cycle) => {
             put(ledger, &cycle, numbers);
-            Verdict::No(cycle.len())
+            Verdict::No(cycle.count)
         }
         // Yes: the list gets the numbers of the order.
         None => {
             put(ledger, &order, numbers);
-            Verdict::Yes(order.len())
+            Verdict::Yes(order.count)
         }
     }
 }

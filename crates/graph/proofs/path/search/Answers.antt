@@ -64,7 +64,7 @@ pub returns : goal.returns
 returns g c =
     let r = ended_at _ _ _ _ _ _ _ (ended g (goal.at.returns g c).After-branch-at) c.in_ok-at.was in
     let shown = way_shown _ _ _ _ (g.G.Graph.few c.args.graph.now) _ r.0 _ r.1 r.2 in
-    (shows_finds _ _ _ _ shown, rw c.way_to.ensures shown)
+    (shows_finds _ _ _ _ shown, rw (c.of.ensures.nodes, c.way_to.ensures) shown, c.of.ensures.count, c.of.ensures.places)
 
 pub returns-in_err-at : goal.returns-in_err-at
 returns-in_err-at g c =
