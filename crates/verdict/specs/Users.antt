@@ -1,7 +1,6 @@
 -- The users of an item: which jobs read it and which wrote it, by their nodes. Rests on sets of nodes, and on acts.
-use Rattle.std.specs.Prelude.{◌≡◌, ℕ, Bool, true, false, ◌||◌, [], ◌∷◌, Some, None, Option, ◌==◌}
+use Rattle.std.specs.Prelude.{◌≡◌, ℕ, Bool, true, false, ◌||◌, ◌==◌}
 use Rattle.graph.specs.Nodes.{has}
-use Rattle.history.specs.Conflicts.{accesses}
 use Rattle.trace.specs.declared.act.Act.{Act}
 use Rattle.trace.specs.declared.act.Act.TheVariants.{Read as ReadAct, Write as WriteAct}
 use Rattle.verdict.specs.declared.users.Access.{Access}
@@ -31,8 +30,3 @@ AddsUser Write u node v = ((p : ℕ) → has v.writers p ≡ (has u.writers p ||
 abbrev pub act_of : Access → ℕ → ℕ → ℕ → Act
 act_of Read job item value = ReadAct job item value
 act_of Write job item value = WriteAct job item value
-
--- the act is this access with some value, or no access and none is answered
-abbrev pub Accesses : Act → Option (Access × ℕ × ℕ) → Type 0
-Accesses act None = accesses (act ∷ []) ≡ []
-Accesses act (Some a) = (value : ℕ) × (act ≡ act_of a.0 a.1 a.2 value)

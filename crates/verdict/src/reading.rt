@@ -5,40 +5,53 @@ ghost use Rattle.history.specs.Conflicts.{Access as Accessed, accesses};
 ghost use Rattle.trace.specs.declared.act.Act.TheVariants.{Open, Commit, Abort};
 ghost use Rattle.verdict.specs.Ledgers.{Keeps, ReadsSteps, Takes, UsersOf};
 ghost use Rattle.verdict.specs.Turns.{acts};
-ghost use Rattle.verdict.specs.Users.{Accesses, act_of};
+ghost use Rattle.verdict.specs.Users.{act_of};
 
 use crate::ledger::Ledger;
 use crate::refusal::JudgeRefusal;
 use crate::users::{Access, Users};
 use trace::act::{Act, Step};
 
-// The access that an act is, if it is one, with its job and its item.
-fn access_of(act: &Act) -> Option<(Access, u32, u32)>
-    ensures { Accesses act.now result }
-{
-    match act {
-        Act::Read { job, item, .. } => Some((Access::Read, *job, *item)),
-        Act::Write { job, item, .. } => Some((Access::Write, *job, *item)),
-        _ => None,
-    }
-}
-
-// Notes an act that uses the item.
+// Notes an act that uses the item. By cases, each with a look-up of its own: where only the writers are asked for, as
+// before a read, the compiler then leaves out the look-ups of the readers.
+#[inline(always)]
 fn note_use(users: &mut Users, ledger: &Ledger, act: &Act, item: u32)
     requires { Distinct ledger.now.numbers.items }
     ensures { (s : List Accessed) → UsersOf s ledger.now.numbers.items item users.old → UsersOf (s ++ accesses (act.now ∷ [])) ledger.now.numbers.items item users.new }
 {
-    let Some((access, job, used)) = access_of(act) else {
-        return;
-    };
-    if used == item {
-        if let Some(node) = ledger.find(job) {
-            users.note(access, node);
+    match act {
+        Act::Read {
+            job,
+            item: used,
+            ..
+        } => {
+            if *used == item {
+                if let Some(node) = ledger.find(*job) {
+                    users.note(Access::Read, node);
+                }
+            }
         }
+        Act::Write {
+            job,
+            item: used,
+            ..
+        } => {
+            if *used == item {
+                if let Some(node) = ledger.find(*job) {
+                    users.note(Access::Write, node);
+                }
+            }
+        }
+        Act::Open { .. }
+        | Act::Commit { .. }
+        | Act::Abort { .. }
+        | Act::Peek { .. }
+        | Act::Retire => {}
     }
 }
 
 // The users of an item among these steps.
+#[inline(always)]
 fn users_of(ledger: &Ledger, before: &[Step], item: u32) -> Users
     requires { Distinct ledger.now.numbers.items }
     ensures { UsersOf (accesses (acts before.now)) ledger.now.numbers.items item result }
@@ -52,6 +65,7 @@ fn users_of(ledger: &Ledger, before: &[Step], item: u32) -> Users
 
 // The users of an item among the steps before: those that the ledger has, or where it does not have them, by a look at
 // those steps.
+#[inline(always)]
 fn users(ledger: &Ledger, before: &[Step], item: u32) -> Users
     requires { Keeps (acts before.now) ledger.now }
     ensures { UsersOf (accesses (acts before.now)) ledger.now.numbers.items item result }
@@ -65,6 +79,8 @@ fn users(ledger: &Ledger, before: &[Step], item: u32) -> Users
 
 // Takes an access of the item by the job, after the steps before. The node of an open job is asked for in place, here
 // and below: with a function between that answers a place or a refusal the judge was slower.
+// Inlined, with what it calls: a read and a write each know which access they are.
+#[inline(always)]
 fn access(
     ledger: &mut Ledger,
     before: &[Step],
