@@ -32,7 +32,7 @@ module _ (size set : ℕ) (leads : ℕ → ℕ → Bool) where
       (e.2.0, e.2.1, T-both (has set j) (has set i && leads i j) e.1 (T-both (has set i) (leads i j) e.0 e.2.2))
 
   -- a path of the part from a node to itself shows a cycle within the set
-  part_cycle : (n : ℕ) (ns : List ℕ) → Path PartEdges n n → ShowsPath PartEdges n n ns
+  pub part_cycle : (n : ℕ) (ns : List ℕ) → Path PartEdges n n → ShowsPath PartEdges n n ns
       → Cycle (Within set (Edges size leads)) × ShowsCycle (Within set (Edges size leads)) ns
   part_cycle n [] p s = absurd s
   part_cycle n (m ∷ ns) p s = (
@@ -45,7 +45,7 @@ module _ (size set : ℕ) (leads : ℕ → ℕ → Bool) where
   starts_inside (e then p) = e.2.0
 
   -- where no node of the graph has a path of the part to itself, there is no cycle within the set
-  part_no_cycle : (n : ℕ) → size ≤ n → ((k : ℕ) → k < n → Path PartEdges k k → ⊥) → Cycle (Within set (Edges size leads)) → ⊥
+  pub part_no_cycle : (n : ℕ) → size ≤ n → ((k : ℕ) → k < n → Path PartEdges k k → ⊥) → Cycle (Within set (Edges size leads)) → ⊥
   part_no_cycle n l none c = none c.0 (omega (arith, starts_inside c.1)) (path_map within_part c.1)
 
   -- the search for a path of the part from each node to itself finds a cycle within the set, if there is one

@@ -9,6 +9,10 @@ use Rattle.scheduler.specs.Slots.{taken, status_of, belongs, slot, first, slot_o
 
 -- tests over rising numbers
 
+those_cons : (p : ℕ → Bool) (x : ℕ) (xs : List ℕ) → those p (x ∷ xs) ≡ cond (p x) (x ∷ those p xs) (those p xs)
+unfolding those
+those_cons p x xs = refl
+
 pub those_same : (p q : ℕ → Bool) (a n : ℕ) → ((j : ℕ) → a ≤ j → p j ≡ q j) → those p (rising a n) ≡ those q (rising a n)
 unfolding those rising
 those_same p q a zero h = refl

@@ -12,7 +12,7 @@ module _ (p : Slot → Bool) where
   first_is [] = refl
   first_is (s ∷ ss) = elim (p s) as (λ b. cond (not b) (1 + position_or_len p ss) 0 ≡ cond b 0 (suc (first p ss))) [ true ↦ refl | false ↦ (let rest = first_is ss in omega arith) ]
 
-  first_within : (ss : List Slot) → first p ss ≤ length ss
+  pub first_within : (ss : List Slot) → first p ss ≤ length ss
   first_within ss = subst (λ n. n ≤ length ss) (first_is ss) (prefix_len-le-length (λ s. not (p s)) ss)
 
   -- what `position` answers

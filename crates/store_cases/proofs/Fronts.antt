@@ -27,7 +27,7 @@ module _ {old new values : List ℕ} {room i left : ℕ} (front : Front old new 
   front_length = ap length front.is ∙ simp (length-append, length-take, length-drop) (omega (arith, front.inside))
 
   -- a granted put adds a value to the front
-  front_more : {values' : List ℕ} {left' : ℕ} → Puts values left i (get_or new i 0) (Ok tt) values' left' → Front old new room (i + 1) values' left'
+  pub front_more : {values' : List ℕ} {left' : ℕ} → Puts values left i (get_or new i 0) (Ok tt) values' left' → Front old new room (i + 1) values' left'
   front_more p =
       let lo : i < length old = omega (arith, front_length, p.0) in
       record {

@@ -1,8 +1,8 @@
 -- A line that has four fields. Rests on the laws of pieces.
-use Rattle.std.proofs.Common.{◌≡◌, ℕ, ◌<◌, eqb, List, [], ◌∷◌, length, get_or, drop, Some, Err, sym, refl, ap, ◌∙◌, subst, inl, inr, arith}
+use Rattle.std.proofs.Common.{◌≡◌, ℕ, ◌<◌, eqb, List, [], ◌∷◌, length, get_or, drop, Some, Err, sym, refl, ap, ◌∙◌, subst, inl, inr, arith, ◌≤◌, None}
 use Rattle.trace.specs.declared.fault.FieldFault.TheVariants.{NoKind}
 use Rattle.trace.specs.declared.fault.LineCause.TheVariants.{Field}
-use Rattle.std.proofs.lemmas.Bool.{cases_Bool, eqb-true}
+use Rattle.std.proofs.lemmas.Bool.{cases_Bool, eqb-true, ne_eqb}
 use Rattle.trace.specs.declared.kind.Kind.{Kind}
 use Rattle.trace.specs.Kinds.{kind_of}
 use Rattle.trace.specs.Lines.{act_on, act_in, act_as, act_of, in_line, kind_in}
@@ -23,12 +23,30 @@ four_fields line h =
     let l₃ : length (parted 44 r₃) ≡ 1 = omega (arith, ap length e₃) in
     ap act_in (e₁ ∙ ap (λ ps. before 44 line ∷ ps) (e₂ ∙ ap (λ ps. before 44 r₁ ∷ ps) (e₃ ∙ ap (λ ps. before 44 r₂ ∷ ps) (parted_one 44 r₃ l₃))))
 
+unnamed : (line : List ℕ) → length (parted 44 line) ≡ 4 → kind_in (before 44 line) ≡ None → Err (Field NoKind) ≡ act_on line
+unnamed line four e = sym (four_fields line four ∙ ap (λ k. in_line (act_as k (before 44 (behind 44 line)) (before 44 (behind 44 (behind 44 line))) (behind 44 (behind 44 (behind 44 line))))) e)
+
 -- a line of four fields has two bytes at least
 pub no_kind_short : (line : List ℕ) → length (parted 44 line) ≡ 4 → length line < 2 → Err (Field NoKind) ≡ act_on line
 no_kind_short line four short = absurd (omega (arith, parted_few 44 line))
 
+-- without a comma behind its first byte it has no kind
+long_kind : (line : List ℕ) → 2 ≤ length line → (get_or line 1 0 ≡ 44 → ⊥) → kind_in (before 44 line) ≡ None
+long_kind [] two ne = refl
+long_kind (c ∷ []) two ne = absurd (omega arith)
+long_kind (c ∷ d ∷ r) two ne = elim (cases_Bool (eqb c 44)) [ inl e ↦ rw e refl | inr e ↦ rw (e, ne_eqb d 44 ne) refl ]
+
+pub no_kind_long : (line : List ℕ) → length (parted 44 line) ≡ 4 → (get_or line 1 0 ≡ 44 → ⊥) → Err (Field NoKind) ≡ act_on line
+no_kind_long line four ne = unnamed line four (long_kind line (omega (arith, parted_few 44 line)) ne)
+
 lone_kind : (c : ℕ) (r : List ℕ) → kind_in (before 44 (c ∷ 44 ∷ r)) ≡ kind_of c
 lone_kind c r = elim (cases_Bool (eqb c 44)) [ inl e ↦ rw e (ap kind_of (sym (eqb-true c 44 e))) | inr e ↦ rw e refl ]
+
+-- a letter that names no kind
+pub no_kind_named : (line : List ℕ) → length (parted 44 line) ≡ 4 → get_or line 1 0 ≡ 44 → kind_of (get_or line 0 0) ≡ None → Err (Field NoKind) ≡ act_on line
+no_kind_named [] four comma e = absurd (omega arith)
+no_kind_named (c ∷ []) four comma e = absurd (omega arith)
+no_kind_named (c ∷ d ∷ r) four comma e = unnamed (c ∷ d ∷ r) four (subst (λ d. kind_in (before 44 (c ∷ d ∷ r)) ≡ None) (sym comma) (lone_kind c r ∙ e))
 
 -- a letter that names a kind is no comma
 behind_kind : (c : ℕ) (r : List ℕ) (k : Kind) → kind_of c ≡ Some k → behind 44 (c ∷ 44 ∷ r) ≡ r

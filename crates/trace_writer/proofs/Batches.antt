@@ -64,7 +64,7 @@ plus_plus : (n m : ℕ) (r : Result ℕ WriteRefusal) → plus n (plus m r) ≡ 
 plus_plus n m (Ok k) = ap Ok (sym (add_assoc n m k))
 plus_plus n m (Err why) = refl
 
-measured_more : (rest : List Act) (a : Act) (total room k : ℕ) → total ≤ room → writing a (room - total) ≡ Ok k → (total + k ≤ room) × (plus (total + k) (writing_all rest (room - (total + k))) ≡ plus total (writing_all (a ∷ rest) (room - total)))
+pub measured_more : (rest : List Act) (a : Act) (total room k : ℕ) → total ≤ room → writing a (room - total) ≡ Ok k → (total + k ≤ room) × (plus (total + k) (writing_all rest (room - (total + k))) ≡ plus total (writing_all (a ∷ rest) (room - total)))
 measured_more rest a total room k h e =
     let w = writing_says a (room - total) k e in
     let r : room - (total + k) ≡ room - total - k = omega arith in
@@ -73,7 +73,7 @@ measured_more rest a total room k h e =
 -- laying on
 
 -- a part put behind another is both put at once
-over_more : (out s t : List ℕ) (place n : ℕ) → n ≡ place + length s → n + length t ≤ length out → over n t (over place s out) ≡ over place (s ++ t) out
+pub over_more : (out s t : List ℕ) (place n : ℕ) → n ≡ place + length s → n + length t ≤ length out → over n t (over place s out) ≡ over place (s ++ t) out
 over_more out s t place n e h =
     let front = take place out ++ s in
     let rest = drop (place + length s) out in

@@ -99,7 +99,7 @@ module _ (H : List Act) (act : Act) (l : Ledger) (k : Keeps H l) (node : ℕ) (b
       (λ i h. ⊎_elim (λ o. o) (λ o. absurd (d (apart H l k q node c b (sym o.0 ∙ sym e)))) (leads_more a (accesses H) i (number_at l q) h))
       (k.edges q c))
 
-  keeps_access : Rows → Marks l.numbers.items (Clashes a.writes a.item (accesses H)) from → length users ≡ 64
+  pub keeps_access : Rows → Marks l.numbers.items (Clashes a.writes a.item (accesses H)) from → length users ≡ 64
       → ((x : ℕ) → x < 64 → UsersOf (accesses H ++ a ∷ []) l.numbers.items x (get_or users x no_users))
       → Keeps (H ++ act ∷ []) (record l { into = into; users = users })
   keeps_access rows m places items =

@@ -201,7 +201,7 @@ module _ (H : List Act) (l : Ledger) (k : Keeps H l) where
     order_inside q i = (kept_node q (o.only q i).1).0
 
 -- distinct nodes of jobs fit the list, if it has a place for each job
-places_fit : (l : Ledger) (ns : List ℕ) (places : ℕ) → count l ≤ places → Distinct ns → ((q : ℕ) → q ∈ ns → q < count l) → length ns ≤ places
+pub places_fit : (l : Ledger) (ns : List ℕ) (places : ℕ) → count l ≤ places → Distinct ns → ((q : ℕ) → q ∈ ns → q < count l) → length ns ≤ places
 places_fit l ns places room d inside = omega (arith, distinct_few (count l) ns d inside)
 
 shows_distinct : (E : Relation) (ns : List ℕ) → ShowsCycle E ns → Distinct ns

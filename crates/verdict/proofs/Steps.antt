@@ -15,10 +15,10 @@ use Rattle.verdict.specs.Users.{no_users}
 use Rattle.verdict.specs.Ledgers.{blank, UsersOf, Keeps, Takes, ReadsSteps}
 use Rattle.verdict.proofs.Marks.{users_none}
 
-act_at : (steps : List Step) (i : ℕ) (d : Step) → i < length steps → get_or (acts steps) i Retire ≡ (get_or steps i d).act
+pub act_at : (steps : List Step) (i : ℕ) (d : Step) → i < length steps → get_or (acts steps) i Retire ≡ (get_or steps i d).act
 act_at steps i d b = get_or-map (λ (s : Step). s.act) steps i d Retire b
 
-acts_take : (steps : List Step) (i : ℕ) → acts (take i steps) ≡ take i (acts steps)
+pub acts_take : (steps : List Step) (i : ℕ) → acts (take i steps) ≡ take i (acts steps)
 acts_take steps i = sym (take-map (λ (s : Step). s.act) i steps)
 
 acts_length : (steps : List Step) → length (acts steps) ≡ length steps
