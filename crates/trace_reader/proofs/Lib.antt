@@ -1,4 +1,5 @@
 pub mod Cutting
+pub mod Figures
 pub mod Fields
 pub mod Progress
 pub mod Laws
