@@ -9,8 +9,8 @@ use trace::fault::NumberFault;
 const TOO_LARGE: u64 = 4294967296;
 
 // The number that digits write, or none where a byte is no digit.
-// By hand: with the library's `parse`, which wants a text and tells less of what is no number, a trace is read in up to
-// twice the time.
+// By hand: with the library's `parse`, which wants a text and tells less of what is no number, a field takes twice the
+// instructions.
 fn digits_value(digits: &[u8]) -> Option<u64>
     ensures { result ≡ (if all_ascii_digits digits.now then Some (min (digits_value 10 digits.now) 4294967296) else None) }
 {
